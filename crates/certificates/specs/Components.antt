@@ -1,0 +1,42 @@
+-- A certificate is a list of components.
+use mathlib.Core.List.{List, [], _∷_, _++_}
+use Prim.Native.Nat.{ℕ}
+use Rattle.rewriting.specs.Pairs.{Pair}
+use Rattle.weights.specs.Polynomials.{Weight, Weighting}
+
+-- pairs, and the weightings (none, or one) under which they are judged
+pub record Component : Type 0 where
+  pub pairs : List Pair
+  pub weightings : List Weighting
+
+abbrev pub no-component : Component
+no-component = record { pairs = []; weightings = [] }
+
+abbrev pub no-weighting : Weighting
+no-weighting = record { weights = []; marked = [] }
+
+unfoldable pub with-pair : Component → Pair → Component
+with-pair c q = record { pairs = c .pairs ++ (q ∷ []); weightings = c .weightings }
+
+-- W and M records belong to the last weighting begun
+unfoldable pub last-weighting : List Weighting → Weighting
+last-weighting [] = no-weighting
+last-weighting (w ∷ []) = w
+last-weighting (w ∷ v ∷ ws) = last-weighting (v ∷ ws)
+
+unfoldable pub on-last : (Weighting → Weighting) → List Weighting → List Weighting
+on-last change [] = []
+on-last change (w ∷ []) = change w ∷ []
+on-last change (w ∷ v ∷ ws) = w ∷ on-last change (v ∷ ws)
+
+unfoldable pub add-weight : Weight → Weighting → Weighting
+add-weight x w = record { weights = w .weights ++ (x ∷ []); marked = w .marked }
+
+unfoldable pub add-marked : Weight → Weighting → Weighting
+add-marked x w = record { weights = w .weights; marked = w .marked ++ (x ∷ []) }
+
+unfoldable pub with-weight : Component → Weight → Component
+with-weight c x = record { pairs = c .pairs; weightings = on-last (add-weight x) (c .weightings) }
+
+unfoldable pub with-marked : Component → Weight → Component
+with-marked c x = record { pairs = c .pairs; weightings = on-last (add-marked x) (c .weightings) }

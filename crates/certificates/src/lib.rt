@@ -1,0 +1,1 @@
+// Reads a certificate: refusals 1, 2, 3 and 7, and its components.

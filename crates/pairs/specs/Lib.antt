@@ -1,0 +1,4 @@
+-- All dependency pairs of a system, the arcs between them, and what the listing and the arc question answer.
+pub mod Listing
+pub mod Arcs
+pub mod Answers

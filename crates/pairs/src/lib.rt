@@ -1,0 +1,1 @@
+// Lists a pack's dependency pairs and answers the arc question.

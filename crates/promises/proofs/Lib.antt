@@ -1,0 +1,4 @@
+-- Where the promises are kept.
+pub mod Computed
+pub mod Starred
+pub mod Loop

@@ -1,0 +1,3 @@
+-- What is promised, and document 01's starred cases.
+pub mod Examples
+pub mod Promises

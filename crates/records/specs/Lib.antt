@@ -1,0 +1,5 @@
+-- Both files' records, and which may stand after which.
+pub mod Outcomes
+pub mod Records
+pub mod Order
+pub mod Rising

@@ -1,0 +1,7 @@
+-- Term rewriting, in the order in which to read it.
+pub mod Terms
+pub mod Steps
+pub mod Termination
+pub mod Pairs
+pub mod Chains
+pub mod Systems

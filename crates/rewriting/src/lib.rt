@@ -1,0 +1,1 @@
+// Terms, rewriting and dependency pairs: definitions in specs/, the dependency pair theorem in proofs/. No code.

@@ -1,0 +1,1 @@
+// Linear polynomials: the polynomial of a side, the limit, and their order.
