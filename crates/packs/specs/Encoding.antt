@@ -9,7 +9,7 @@ use Rattle.rewriting.specs.Systems.{Good}
 use Rattle.records.specs.declared.Record.{Record}
 use Rattle.records.specs.Records.{a-record, all-record-bytes}
 use Rattle.records.specs.Order.{S-symbol, R-rule, F-application, V-variable}
-use Rattle.packs.specs.Sides.{Node, variable, symbol, flat}
+use Rattle.terms.specs.Sides.{Node, variable, symbol, flat}
 use Rattle.packs.specs.Reading.{most-symbols, most-arity, most-rules, most-nodes}
 
 unfoldable pub node-record : Node → Record

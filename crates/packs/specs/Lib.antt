@@ -1,4 +1,3 @@
--- Packs: sides as nodes in prefix order, the reader with refusals 1 to 6, and the encoder.
-pub mod Sides
+-- Packs: the reader with refusals 1 to 6, and the encoder.
 pub mod Reading
 pub mod Encoding

@@ -12,7 +12,7 @@ use Rattle.records.specs.declared.Record.{Record}
 use Rattle.records.specs.Outcomes.{Outcome, refused, passed, after, refusal}
 use Rattle.records.specs.Records.{all-records, length-bad}
 use Rattle.records.specs.Order.{S-symbol, R-rule, V-variable, pack-edge, index, may-follow}
-use Rattle.packs.specs.Sides.{Node, variable, symbol, side}
+use Rattle.terms.specs.Sides.{Node, variable, symbol, side}
 
 -- THE LIMITS of document 01
 abbrev pub most-bytes : ℕ

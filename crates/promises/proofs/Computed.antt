@@ -6,7 +6,7 @@ use Rattle.rewriting.specs.Systems.{is-app, variables, member, all-in}
 use Rattle.records.specs.Records.{two, record-at, first-records, all-records, length-bad, low-two, record-bytes, all-record-bytes}
 use Rattle.records.specs.Order.{index, order, lets, may-follow}
 use Rattle.records.specs.Rising.{rises, last-below, rising}
-use Rattle.packs.specs.Sides.{flat, applied, with-first, and-others, parse-all, parse, whole, side}
+use Rattle.terms.specs.Sides.{flat, applied, with-first, and-others, parse-all, parse, whole, side}
 use Rattle.packs.specs.Reading.{symbol-read, side-count, rule-read, node-zeros, node-in-range, node-of, rule-of, rule-ended, node-read, pack-step, pack-end, pack-from, read-pack}
 use Rattle.packs.specs.Encoding.{node-record, node-records, symbol-records, rule-records, pack-records, pack-bytes}
 use Rattle.pairs.specs.Listing.{pairs-from, pairs-of, pairs, same-pair, count-pair, pair-record, pair-records, pair-bytes}

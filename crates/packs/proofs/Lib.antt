@@ -1,0 +1,7 @@
+-- Facts about packs, in the order in which to read them: reading a pack is the inverse of encoding it, and what its refusals are.
+pub mod Encoding
+pub mod OneRecord
+pub mod Places
+pub mod ReadBack
+pub mod OnlyEncodings
+pub mod Refusals

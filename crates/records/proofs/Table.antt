@@ -1,0 +1,98 @@
+-- The kinds of records one by one, and what the table of their order says whatever the file: what may follow has an entry
+-- there, and the two files' kinds never mix.
+use mathlib.Core.Path.{_≡_, refl, sym, subst}
+use mathlib.Core.Bool.{Bool, true, false, false≢true}
+use Prim.Native.Nat.{ℕ, zero, suc, _+_, _-_, _*_, _≤_, _<_}
+use native.Mathlib.Nat.{le-of-suc-le-suc}
+use native.Mathlib.Omega.{arith}
+use lib.Dec.{ltb, eqb}
+use lib.ListN.{getD}
+use borrow.Author.Tests.{eqb-true, lt-ltb}
+use Rattle.records.specs.Order.{S-symbol, R-rule, F-application, V-variable, C-component, P-pair, W-weight, M-marked, index, order, lets, may-follow}
+
+-- a byte is one of the eight letters or none of them
+pub data Kind : ℕ → Type 0 where
+  is-S : Kind S-symbol
+  is-R : Kind R-rule
+  is-F : Kind F-application
+  is-V : Kind V-variable
+  is-C : Kind C-component
+  is-P : Kind P-pair
+  is-W : Kind W-weight
+  is-M : Kind M-marked
+  is-other : (k : ℕ) → index k ≡ 10 → Kind k
+
+letter : (k m : ℕ) → Kind m → (eqb k m ≡ false → Kind k) → Kind k
+letter k m this other = go (eqb k m) refl
+  where
+    go : (b : Bool) → eqb k m ≡ b → Kind k
+    go true e = subst Kind (sym (eqb-true k m e)) this
+    go false e = other e
+
+pub kind-of : (k : ℕ) → Kind k
+unfolding index
+kind-of k =
+    letter k S-symbol is-S
+    (λ s. letter k R-rule is-R
+    (λ r. letter k F-application is-F
+    (λ f. letter k V-variable is-V
+    (λ v. letter k C-component is-C
+    (λ c. letter k P-pair is-P
+    (λ p. letter k W-weight is-W (λ w. letter k M-marked is-M (λ m. is-other k (rw (s, r, f, v, c, p, w, m))))))))))
+
+-- THE TABLE
+
+-- what stands in the table for a kind after another
+abbrev pub entry : (before next : ℕ) → ℕ
+entry before next = getD order (11 * before + next) 0
+
+pub may-follow-entry : (before next due : ℕ) (weighted : Bool) → may-follow before next due weighted ≡ true → entry before next ≡ 0 → ⊥
+unfolding may-follow lets
+may-follow-entry before next due weighted h e = false≢true (rw e at h)
+
+-- as `obeys` asks it of each two that stand one after the other
+pub may-follow-stands : (before next due : ℕ) (weighted : Bool) → may-follow before next due weighted ≡ true → ltb 0 (entry before next) ≡ true
+may-follow-stands before next due weighted h =
+    let some : entry before next ≡ 0 → ⊥ = may-follow-entry before next due weighted h in
+    lt-ltb 0 (entry before next) (omega arith)
+
+-- numbers that add up to 0 are each 0: so computing one sum tells of every entry in a part of the table
+sum-below : ℕ → (ℕ → ℕ) → ℕ
+sum-below zero f = 0
+sum-below (suc n) f = f 0 + sum-below n (λ i. f (suc i))
+
+zero-below : (n : ℕ) (f : ℕ → ℕ) → sum-below n f ≡ 0 → (i : ℕ) → i < n → f i ≡ 0
+unfolding sum-below
+zero-below zero f h i b = absurd (omega arith)
+zero-below (suc n) f h zero b = omega arith
+zero-below (suc n) f h (suc i) b = zero-below n (λ j. f (suc j)) (omega arith) i (le-of-suc-le-suc b)
+
+abbrev part-sum : (rows columns first-row first-column : ℕ) → ℕ
+part-sum m n b c = sum-below m (λ i. sum-below n (λ j. entry (b + i) (c + j)))
+
+part-zero : (m n b c : ℕ) → part-sum m n b c ≡ 0 → (i j : ℕ) → i < m → j < n → entry (b + i) (c + j) ≡ 0
+part-zero m n b c h i j k l =
+    zero-below n (λ j. entry (b + i) (c + j)) (zero-below m (λ i. sum-below n (λ j. entry (b + i) (c + j))) h i k) j l
+
+-- in a pack no kind of the certificate may stand, nor any other byte
+pub pack-apart : (before next : ℕ) → before < 5 → 5 ≤ next → next ≤ 10 → entry before next ≡ 0
+unfolding order sum-below
+pack-apart before next h k l =
+    let e : 0 + before ≡ before = omega arith in
+    let f : 5 + (next - 5) ≡ next = omega arith in
+    rw (e, f) at (part-zero 5 6 0 5 refl before (next - 5) h (omega arith))
+
+-- in a certificate no kind of the pack may stand
+pub certificate-apart : (before next : ℕ) → 5 ≤ before → before ≤ 10 → next < 5 → entry before next ≡ 0
+unfolding order sum-below
+certificate-apart before next h k l =
+    let e : 0 + next ≡ next = omega arith in
+    let f : 5 + (before - 5) ≡ before = omega arith in
+    rw (e, f) at (part-zero 6 5 5 0 refl (before - 5) next (omega arith) l)
+
+-- any other byte may stand nowhere
+pub other-nowhere : (before : ℕ) → before ≤ 10 → entry before 10 ≡ 0
+unfolding order sum-below
+other-nowhere before h =
+    let e : 0 + before ≡ before = omega arith in
+    rw e at (part-zero 11 1 0 10 refl before 0 (omega arith) (omega arith))

@@ -1,0 +1,17 @@
+-- The theory of rewriting, in the order in which to read it.
+
+-- tests and lists, and nothing about terms
+pub mod Basics
+-- any relation: SN and finite derivations
+pub mod Relations
+-- terms, substitutions and their variables; roots and defined symbols; dependency pairs
+pub mod Trees
+pub mod Defined
+pub mod Pairs
+-- rewrite steps of a good system, and what derivations of each shape of tree look like
+pub mod Steps
+pub mod Derivations
+-- the dependency pair theorem: one way, the other way, both
+pub mod TermsTerminate
+pub mod ChainsTerminate
+pub mod DependencyPairs

@@ -1,0 +1,1 @@
+// Terms kept as bytes, a byte a node in prefix order.
