@@ -1,0 +1,158 @@
+-- The records that encode a certificate: how they grow with it, that there is one for each component, and that their
+-- fields fit 8 bytes exactly if the values of the weights do.
+use mathlib.Core.Path.{_≡_, refl, ap}
+use mathlib.Core.List.{List, [], _∷_, _++_, append-assoc, append-nil}
+use Prim.Native.Nat.{ℕ, suc, _+_, _≤_, _<_}
+use native.Mathlib.Nat.{add-zero}
+use native.Mathlib.Omega.{arith}
+use lib.Dec.{ltb}
+use lib.ListN.{length, getD, length-append}
+use borrow.Author.Tests.{ltb-true, leb-true}
+use Rattle.rewriting.specs.Terms.{System, rule}
+use Rattle.rewriting.specs.Pairs.{Pair}
+use Rattle.rewriting.proofs.Basics.{and-left, and-right, Each, each-nil, each-cons, each-head, each-tail}
+use Rattle.rewriting.proofs.Pairs.{pair-rule, pair-place}
+use Rattle.records.specs.declared.Record.{Record}
+use Rattle.records.specs.Records.{a-record}
+use Rattle.records.specs.Order.{C-component, W-weight, M-marked}
+use Rattle.records.proofs.Bytes.{In-range, All-in-range, in-range-append}
+use Rattle.packs.specs.Encoding.{Good-pack}
+use Rattle.terms.proofs.Parsing.{length-flat}
+use Rattle.pairs.specs.Listing.{pair-record, pair-records}
+use Rattle.weights.specs.Polynomials.{Weight, Weighting}
+use Rattle.certificates.specs.Components.{Component}
+use Rattle.certificates.specs.Reading.{is-place}
+use Rattle.certificates.specs.Encoding.{weight-records, weighting-records, component-records}
+use Rattle.certificates.proofs.Shapes.{Is-pair, At-place, Weighting-shaped, Shaped, Value-fits, Values-fit, Component-fits}
+
+-- the record of a weight; its kind says whether of a symbol or of a tuple symbol
+abbrev pub weight-record : (kind : ℕ) → Weight → Record
+weight-record k w = a-record k (w .symbol) (w .place) (w .value)
+
+-- ONE MORE at the end
+
+pub pair-records-snoc : (qs : List Pair) (q : Pair) → pair-records (qs ++ (q ∷ [])) ≡ pair-records qs ++ (pair-record q ∷ [])
+unfolding pair-records
+pair-records-snoc [] q = refl
+pair-records-snoc (r ∷ qs) q = ap (λ (l : List Record). pair-record r ∷ l) (pair-records-snoc qs q)
+
+pub weight-records-snoc : (k : ℕ) (ws : List Weight) (w : Weight) → weight-records k (ws ++ (w ∷ [])) ≡ weight-records k ws ++ (weight-record k w ∷ [])
+unfolding weight-records
+weight-records-snoc k [] w = refl
+weight-records-snoc k (v ∷ ws) w = ap (λ (l : List Record). weight-record k v ∷ l) (weight-records-snoc k ws w)
+
+-- component i of n pairs, as far as it is known
+abbrev pub records-of : (i n : ℕ) → Component → List Record
+records-of i n c = a-record C-component i (length (c .weightings)) n ∷ (pair-records (c .pairs) ++ weighting-records (c .weightings))
+
+pub component-records-snoc : (i : ℕ) (cs : List Component) (c : Component)
+    → component-records i (cs ++ (c ∷ [])) ≡ component-records i cs ++ records-of (i + length cs) (length (c .pairs)) c
+unfolding component-records
+component-records-snoc i [] c = rw (append-nil, add-zero)
+component-records-snoc i (d ∷ cs) c =
+    let e : i + suc (length cs) ≡ suc i + length cs = omega arith in
+    rw (e, component-records-snoc (suc i) cs c, append-assoc (pair-records (d .pairs)), append-assoc (weighting-records (d .weightings)))
+
+-- A RECORD FOR EACH COMPONENT, so few bytes hold few components
+
+pub components-few : (i : ℕ) (cs : List Component) → length cs ≤ length (component-records i cs)
+unfolding component-records
+components-few i [] = omega arith
+components-few i (c ∷ cs) =
+    let rest = components-few (suc i) cs in
+    simp length-append (omega arith)
+
+-- THE FIELDS FIT a record of 8 bytes
+
+module _ (p : System) (g : Good-pack p) where
+  pair-in-range : (q : Pair) → Is-pair p q → In-range (pair-record q)
+  unfolding pair-record
+  pair-in-range q is =
+      let number = pair-rule p q is in
+      let place = pair-place p q is in
+      let rules = g .rule-count in
+      let nodes = g .rights (q .at-rule) number in
+      let places = length-flat (rule p (q .at-rule) .right) in
+      omega arith
+
+  pairs-in-range : (qs : List Pair) → Each (Is-pair p) qs → All-in-range (pair-records qs)
+  unfolding pair-records
+  pairs-in-range [] h = tt
+  pairs-in-range (q ∷ qs) h = (pair-in-range q (each-head h), pairs-in-range qs (each-tail h))
+
+  weight-in-range : (k : ℕ) (w : Weight) → k < 256 → At-place p w → Value-fits w → In-range (weight-record k w)
+  unfolding is-place
+  weight-in-range k w h at fits =
+      let symbol = ltb-true (w .symbol) (length (p .arities)) (and-left _ _ at) in
+      let place = leb-true (w .place) (getD (p .arities) (w .symbol) 0) (and-right (ltb (w .symbol) (length (p .arities))) _ at) in
+      let symbols = g .symbols in
+      let small = g .arities-small (w .symbol) symbol in
+      omega arith
+
+  weights-in-range : (k : ℕ) (ws : List Weight) → k < 256 → Each (At-place p) ws → Each Value-fits ws → All-in-range (weight-records k ws)
+  unfolding weight-records
+  weights-in-range k [] h at fits = tt
+  weights-in-range k (w ∷ ws) h at fits =
+      (weight-in-range k w h (each-head at) (each-head fits), weights-in-range k ws h (each-tail at) (each-tail fits))
+
+  weightings-in-range : (vs : List Weighting) → Each (Weighting-shaped p) vs → Each Values-fit vs → All-in-range (weighting-records vs)
+  unfolding weighting-records
+  weightings-in-range [] s f = tt
+  weightings-in-range (v ∷ vs) s f =
+      let shape = each-head s in
+      let fits = each-head f in
+      in-range-append (weight-records W-weight (v .weights)) _
+      (weights-in-range W-weight (v .weights) (omega arith) (shape .weights-placed) (fits .weights-fit))
+      (in-range-append (weight-records M-marked (v .marked)) _
+      (weights-in-range M-marked (v .marked) (omega arith) (shape .marked-placed) (fits .marked-fit))
+      (weightings-in-range vs (each-tail s) (each-tail f)))
+
+  pub components-in-range : (i : ℕ) (cs : List Component) → i + length cs ≤ 65536 → Each (Shaped p) cs → Each Component-fits cs → All-in-range (component-records i cs)
+  unfolding component-records
+  components-in-range i [] few s f = tt
+  components-in-range i (c ∷ cs) few s f =
+      let shape = each-head s in
+      let counts = shape .counts in (
+        omega arith,
+        in-range-append (pair-records (c .pairs)) _ (pairs-in-range (c .pairs) (shape .in-order .are-pairs))
+            (in-range-append (weighting-records (c .weightings)) _ (weightings-in-range (c .weightings) (shape .in-order .weightings-shaped) (each-head f))
+            (components-in-range (suc i) cs (omega arith) (each-tail s) (each-tail f))),
+      )
+
+-- AND THE VALUES WITH THEM
+
+in-range-left : (rs ss : List Record) → All-in-range (rs ++ ss) → All-in-range rs
+in-range-left [] ss h = tt
+in-range-left (r ∷ rs) ss h = (h .0, in-range-left rs ss (h .1))
+
+in-range-right : (rs ss : List Record) → All-in-range (rs ++ ss) → All-in-range ss
+in-range-right [] ss h = h
+in-range-right (r ∷ rs) ss h = in-range-right rs ss (h .1)
+
+weights-fit-back : (k : ℕ) (ws : List Weight) → All-in-range (weight-records k ws) → Each Value-fits ws
+unfolding weight-records
+weights-fit-back k [] h = each-nil
+weights-fit-back k (w ∷ ws) h = each-cons w ws (h .0 .c-small) (weights-fit-back k ws (h .1))
+
+weightings-fit-back : (vs : List Weighting) → All-in-range (weighting-records vs) → Each Values-fit vs
+unfolding weighting-records
+weightings-fit-back [] h = each-nil
+weightings-fit-back (v ∷ vs) h =
+    let w = weight-records W-weight (v .weights) in
+    let m = weight-records M-marked (v .marked) in
+    let after-w = in-range-right w (m ++ weighting-records vs) h in
+    each-cons v vs
+    (record {
+      weights-fit = weights-fit-back W-weight (v .weights) (in-range-left w _ h);
+      marked-fit = weights-fit-back M-marked (v .marked) (in-range-left m _ after-w);
+    })
+    (weightings-fit-back vs (in-range-right m _ after-w))
+
+pub components-fit-back : (i : ℕ) (cs : List Component) → All-in-range (component-records i cs) → Each Component-fits cs
+unfolding component-records
+components-fit-back i [] h = each-nil
+components-fit-back i (c ∷ cs) h =
+    let after-pairs = in-range-right (pair-records (c .pairs)) (weighting-records (c .weightings) ++ component-records (suc i) cs) (h .1) in
+    each-cons c cs
+    (weightings-fit-back (c .weightings) (in-range-left (weighting-records (c .weightings)) _ after-pairs))
+    (components-fit-back (suc i) cs (in-range-right (weighting-records (c .weightings)) _ after-pairs))

@@ -1,0 +1,159 @@
+-- One record of a certificate: the four ways to read it without a refusal, exactly.
+use mathlib.Core.Path.{_≡_, refl}
+use mathlib.Core.Bool.{Bool, true, false, _&&_, not}
+use mathlib.Core.List.{List, []}
+use mathlib.Core.Option.{Option, none, some}
+use Prim.Native.Nat.{ℕ, zero, suc, _-_, _≤_, _<_}
+use native.Mathlib.Omega.{arith}
+use lib.Dec.{ltb, leb, eqb, eqb·suc-zero}
+use lib.ListN.{length, replicate}
+use borrow.Author.Tests.{ltb-false, leb-true, le-leb, le-ltb, eqb-true, eq-eqb, not-true}
+use Rattle.rewriting.specs.Terms.{System}
+use Rattle.rewriting.specs.Pairs.{Pair, is-pair, defined}
+use Rattle.rewriting.proofs.Basics.{and-left, and-right}
+use Rattle.records.specs.declared.Record.{Record}
+use Rattle.records.specs.Outcomes.{refused, passed}
+use Rattle.records.specs.Records.{a-record}
+use Rattle.records.specs.Order.{C-component, P-pair, W-weight, M-marked, certificate-edge, index, may-follow}
+use Rattle.records.specs.Rising.{last-below}
+use Rattle.records.proofs.Outcomes.{not-passed, passed-same, test-held}
+use Rattle.records.proofs.Table.{Kind, is-S, is-R, is-F, is-V, is-C, is-P, is-W, is-M, is-other, kind-of, certificate-apart, other-nowhere, may-follow-entry}
+use Rattle.pairs.specs.Listing.{a-pair, pair-record}
+use Rattle.weights.specs.Polynomials.{Weight}
+use Rattle.certificates.specs.Components.{Component, no-weighting, with-pair, last-weighting, with-weight, with-marked}
+use Rattle.certificates.specs.Reading.{Reading, going-on, most-pairs, most-weightings, components-of, has-weighting, component-read, pair-read, weight-of, weights-below, is-place, weight-read, marked-read, inside-read, cert-step}
+use Rattle.certificates.proofs.Shapes.{Counted, Is-pair, At-place, Of-defined}
+use Rattle.certificates.proofs.Encoding.{weight-record}
+
+-- before the first record
+abbrev pub nothing-read : Reading
+nothing-read = record { last = certificate-edge; done = []; begun = none; due = 0 }
+
+-- after a C record
+abbrev pub begun-with : (weightings : ℕ) → Component
+begun-with b = record { pairs = []; weightings = replicate b no-weighting }
+
+pub data Reads (p : System) : Reading → Record → Reading → Type 0 where
+  reads-component : (x : Reading) (b n : ℕ) → may-follow (x .last) 6 (x .due) (has-weighting (x .begun)) ≡ true → Counted b n
+      → Reads p x (a-record C-component (length (components-of x)) b n) (going-on 6 (components-of x) (begun-with b) n)
+  reads-pair : (last : ℕ) (cs : List Component) (c : Component) (due : ℕ) (q : Pair) → may-follow last 7 due (has-weighting (some c)) ≡ true
+      → last-below (λ q. q .at-rule) (λ q. q .place) (c .pairs) (q .at-rule) (q .place) ≡ true → Is-pair p q
+      → Reads p (going-on last cs c due) (pair-record q) (going-on 7 cs (with-pair c q) (due - 1))
+  reads-weight : (last : ℕ) (cs : List Component) (c : Component) (due : ℕ) (w : Weight) → may-follow last 8 due (has-weighting (some c)) ≡ true
+      → weights-below (last-weighting (c .weightings) .weights) (w .symbol) (w .place) ≡ true → At-place p w
+      → Reads p (going-on last cs c due) (weight-record W-weight w) (going-on 8 cs (with-weight c w) 0)
+  reads-marked : (last : ℕ) (cs : List Component) (c : Component) (due : ℕ) (w : Weight) → may-follow last 9 due (has-weighting (some c)) ≡ true
+      → weights-below (last-weighting (c .weightings) .marked) (w .symbol) (w .place) ≡ true → At-place p w
+      → Of-defined p w
+      → Reads p (going-on last cs c due) (weight-record M-marked w) (going-on 9 cs (with-marked c w) 0)
+
+-- SO THE STEP PASSES
+
+counts-alone : (b n : ℕ) → Counted b n → eqb b 0 && ltb 1 n ≡ false
+counts-alone zero n k = let e = k .alone refl in le-ltb 1 n (omega arith)
+counts-alone (suc b) n k = rw (eqb·suc-zero b)
+
+pub reads-passes : (p : System) (x y : Reading) (r : Record) → Reads p x r y → cert-step p r x ≡ passed y
+unfolding cert-step component-read inside-read pair-read weight-read marked-read weight-of index pair-record
+reads-passes p _ _ _ (reads-component x b n h k) =
+    rw (h, eq-eqb _ _ refl, counts-alone b n k, le-leb _ _ (k .weightings-few), le-leb _ _ (k .pairs-some), le-leb _ _ (k .pairs-few))
+reads-passes p _ _ _ (reads-pair last cs c due q h below is) = rw (h, below, is)
+reads-passes p _ _ _ (reads-weight last cs c due w h below place) = rw (h, below, place)
+reads-passes p _ _ _ (reads-marked last cs c due w h below place def) = rw (h, below, place, def)
+
+-- AND IN NO OTHER WAY: a step that passes is one of the four
+
+counted-by : (b n : ℕ) → b ≤ most-weightings → 1 ≤ n → n ≤ most-pairs → not (eqb b 0 && ltb 1 n) ≡ true → Counted b n
+counted-by b n few one bound h =
+    record {
+      weightings-few = few;
+      pairs-some = one;
+      pairs-few = bound;
+      alone = λ e.
+          let many : ltb 1 n ≡ false = rw (eq-eqb b 0 e) at (not-true (eqb b 0 && ltb 1 n) h) in
+          omega (arith, ltb-false 1 n many);
+    }
+
+module _ (p : System) (y : Reading) (one a b c : ℕ) where
+  component-passes : (x : Reading) → may-follow (x .last) 6 (x .due) (has-weighting (x .begun)) ≡ true
+      → component-read (record { kind = C-component; one = one; a = a; b = b; c = c }) x ≡ passed y
+      → Reads p x (record { kind = C-component; one = one; a = a; b = b; c = c }) y
+  unfolding component-read index
+  component-passes x h e =
+      let zeros = test-held ((eqb one 0 && eqb a (length (components-of x))) && not (eqb b 0 && ltb 1 c)) _ 2 e in
+      let range = test-held (leb b most-weightings && (leb 1 c && leb c most-pairs)) _ 3 (zeros .1) in
+      let number = and-left (eqb one 0 && eqb a (length (components-of x))) _ (zeros .0) in
+      let few-alone = and-right (eqb one 0 && eqb a (length (components-of x))) _ (zeros .0) in
+      let pairs-range = and-right (leb b most-weightings) _ (range .0) in
+      let one-zero : one ≡ 0 = eqb-true _ _ (and-left _ _ number) in
+      let in-sequence : a ≡ length (components-of x) = eqb-true _ _ (and-right (eqb one 0) _ number) in
+      let counts =
+      counted-by b c (leb-true b most-weightings (and-left _ _ (range .0))) (leb-true 1 c (and-left _ _ pairs-range))
+      (leb-true c most-pairs (and-right (leb 1 c) _ pairs-range)) few-alone in
+      rw (one-zero, in-sequence, ← (passed-same (range .1))) (reads-component x b c h counts)
+
+  module _ (last : ℕ) (cs : List Component) (d : Component) (due : ℕ) where
+    pair-passes : may-follow last 7 due (has-weighting (some d)) ≡ true
+        → pair-read p (record { kind = P-pair; one = one; a = a; b = b; c = c }) (going-on last cs d due) d ≡ passed y
+        → Reads p (going-on last cs d due) (record { kind = P-pair; one = one; a = a; b = b; c = c }) y
+    unfolding pair-read index pair-record
+    pair-passes h e =
+        let below = last-below (λ q. q .at-rule) (λ q. q .place) (d .pairs) a b in
+        let zeros = test-held ((eqb one 0 && eqb c 0) && below) _ 2 e in
+        let is = test-held (is-pair p (a-pair a b)) _ 7 (zeros .1) in
+        let fields = and-left (eqb one 0 && eqb c 0) below (zeros .0) in
+        let one-zero : one ≡ 0 = eqb-true _ _ (and-left _ _ fields) in
+        let c-zero : c ≡ 0 = eqb-true _ _ (and-right (eqb one 0) _ fields) in
+        rw (one-zero, c-zero, ← (passed-same (is .1)))
+        (reads-pair last cs d due (a-pair a b) h (and-right (eqb one 0 && eqb c 0) below (zeros .0)) (is .0))
+
+    abbrev this-weight : Weight
+    this-weight = record { symbol = a; place = b; value = c }
+
+    weight-passes : may-follow last 8 due (has-weighting (some d)) ≡ true
+        → weight-read p (record { kind = W-weight; one = one; a = a; b = b; c = c }) (going-on last cs d due) d ≡ passed y
+        → Reads p (going-on last cs d due) (record { kind = W-weight; one = one; a = a; b = b; c = c }) y
+    unfolding weight-read index weight-of
+    weight-passes h e =
+        let zeros = test-held (eqb one 0 && weights-below (last-weighting (d .weightings) .weights) a b) _ 2 e in
+        let place = test-held (is-place p a b) _ 3 (zeros .1) in
+        let one-zero : one ≡ 0 = eqb-true _ _ (and-left _ _ (zeros .0)) in
+        rw (one-zero, ← (passed-same (place .1)))
+        (reads-weight last cs d due this-weight h (and-right (eqb one 0) _ (zeros .0)) (place .0))
+
+    marked-passes : may-follow last 9 due (has-weighting (some d)) ≡ true
+        → marked-read p (record { kind = M-marked; one = one; a = a; b = b; c = c }) (going-on last cs d due) d ≡ passed y
+        → Reads p (going-on last cs d due) (record { kind = M-marked; one = one; a = a; b = b; c = c }) y
+    unfolding marked-read index weight-of
+    marked-passes h e =
+        let zeros = test-held (eqb one 0 && weights-below (last-weighting (d .weightings) .marked) a b) _ 2 e in
+        let place = test-held (is-place p a b && defined p a) _ 3 (zeros .1) in
+        let one-zero : one ≡ 0 = eqb-true _ _ (and-left _ _ (zeros .0)) in
+        rw (one-zero, ← (passed-same (place .1)))
+        (reads-marked last cs d due this-weight h (and-right (eqb one 0) _ (zeros .0)) (and-left _ _ (place .0)) (and-right (is-place p a b) _ (place .0)))
+
+-- no other kind may stand in a certificate
+foreign : {C : Type 0} (row next due : ℕ) (weighted : Bool) → 5 ≤ row → row ≤ 10 → next < 5 → may-follow row next due weighted ≡ true → C
+foreign row next due weighted h k l e = absurd (may-follow-entry row next due weighted e (certificate-apart row next h k l))
+
+of-kind : (p : System) (last : ℕ) (cs : List Component) (begun : Option Component) (due : ℕ) (y : Reading) (k one a b c : ℕ) → Kind k → 5 ≤ last → last ≤ 10
+    → cert-step p (record { kind = k; one = one; a = a; b = b; c = c }) (record { last = last; done = cs; begun = begun; due = due }) ≡ passed y
+    → Reads p (record { last = last; done = cs; begun = begun; due = due }) (record { kind = k; one = one; a = a; b = b; c = c }) y
+unfolding cert-step index inside-read
+of-kind p last cs begun due y _ one a b c is-S l m e = foreign last 1 due _ l m (omega arith) (test-held _ _ 2 e .0)
+of-kind p last cs begun due y _ one a b c is-R l m e = foreign last 2 due _ l m (omega arith) (test-held _ _ 2 e .0)
+of-kind p last cs begun due y _ one a b c is-F l m e = foreign last 3 due _ l m (omega arith) (test-held _ _ 2 e .0)
+of-kind p last cs begun due y _ one a b c is-V l m e = foreign last 4 due _ l m (omega arith) (test-held _ _ 2 e .0)
+of-kind p last cs begun due y _ one a b c is-C l m e = let t = test-held _ _ 2 e in component-passes p y one a b c _ (t .0) (t .1)
+of-kind p last cs none due y _ one a b c is-P l m e = not-passed (test-held (may-follow last 7 due (has-weighting none)) (refused 2) 2 e .1)
+of-kind p last cs (some d) due y _ one a b c is-P l m e = let t = test-held _ _ 2 e in pair-passes p y one a b c last cs d due (t .0) (t .1)
+of-kind p last cs none due y _ one a b c is-W l m e = not-passed (test-held (may-follow last 8 due (has-weighting none)) (refused 2) 2 e .1)
+of-kind p last cs (some d) due y _ one a b c is-W l m e = let t = test-held _ _ 2 e in weight-passes p y one a b c last cs d due (t .0) (t .1)
+of-kind p last cs none due y _ one a b c is-M l m e = not-passed (test-held (may-follow last 9 due (has-weighting none)) (refused 2) 2 e .1)
+of-kind p last cs (some d) due y _ one a b c is-M l m e = let t = test-held _ _ 2 e in marked-passes p y one a b c last cs d due (t .0) (t .1)
+of-kind p last cs begun due y _ one a b c (is-other k i) l m e =
+    let h : may-follow last (index k) due (has-weighting begun) ≡ true = test-held _ _ 2 e .0 in
+    absurd (may-follow-entry last 10 due (has-weighting begun) (rw i at h) (other-nowhere last m))
+
+pub passes-reads : (p : System) (x y : Reading) (r : Record) → 5 ≤ x .last → x .last ≤ 10 → cert-step p r x ≡ passed y → Reads p x r y
+passes-reads p x y r l m e = of-kind p (x .last) (x .done) (x .begun) (x .due) y (r .kind) (r .one) (r .a) (r .b) (r .c) (kind-of (r .kind)) l m e
