@@ -14,7 +14,7 @@ use Rattle.records.specs.declared.Record.{Record}
 use Rattle.records.specs.Outcomes.{Outcome, refused, passed, after, refusal}
 use Rattle.records.specs.Records.{all-records, length-bad}
 use Rattle.records.specs.Order.{index, certificate-edge, obeys}
-use Rattle.records.proofs.Outcomes.{test-held, test-failed, after-passed, after-same, after-after, Refused-within, refusal-within, within}
+use Rattle.records.proofs.Outcomes.{test-held, test-failed, after-passed, after-same, after-after, Refused-within, test-within, refusal-within, wider, within}
 use Rattle.records.proofs.Bytes.{records-append}
 use Rattle.records.proofs.Table.{may-follow-stands}
 use Rattle.pairs.specs.Listing.{pair-record}
@@ -25,7 +25,6 @@ use Rattle.certificates.proofs.OneRecord.{nothing-read, Reads, reads-co
 -- THE NUMBERS
 
 data In-table {A : Type 0} : Outcome A → Type 0 where
-  cut-file : In-table (refused 1)
   stray-record : In-table (refused 2)
   out-of-range : In-table (refused 3)
   no-such-pair : In-table (refused 7)
@@ -36,14 +35,13 @@ test-in-table true o u h k = h
 test-in-table false o u h k = k
 
 after-in-table : {A B : Type 0} (o : Outcome A) (k : A → Outcome B) → In-table o → ((x : A) → In-table (k x)) → In-table (after o k)
-after-in-table _ k cut-file f = cut-file
 after-in-table _ k stray-record f = stray-record
 after-in-table _ k out-of-range f = out-of-range
 after-in-table _ k no-such-pair f = no-such-pair
 after-in-table _ k (not-refused x) f = f x
 
 -- `search tabled` proves of a reading made of tests and readings that its refusals are in the table
-ruleset tabled = (test-in-table, after-in-table, cut-file, stray-record, out-of-range, no-such-pair, not-refused)
+ruleset tabled = (test-in-table, after-in-table, stray-record, out-of-range, no-such-pair, not-refused)
 
 module _ (p : System) (r : Record) (x : Reading) where
   component-tabled : In-table (component-read r x)
@@ -80,35 +78,37 @@ unfolding cert-from
 from-tabled p [] x = end-tabled x
 from-tabled p (r ∷ rs) x = after-in-table (cert-step p r x) _ (step-tabled p r x) (λ y. from-tabled p rs y)
 
-read-tabled : (p : System) (ds : List ℕ) → In-table (read-certificate p ds)
-unfolding read-certificate
-read-tabled p ds = test-in-table (length-bad most-bytes ds) (refused 1) _ cut-file (from-tabled p (all-records ds) _)
-
-in-table-within : {A : Type 0} {o : Outcome A} → In-table o → Refused-within 1 7 o
-in-table-within cut-file = search within
+in-table-within : {A : Type 0} {o : Outcome A} → In-table o → Refused-within 2 7 o
 in-table-within stray-record = search within
 in-table-within out-of-range = search within
 in-table-within no-such-pair = search within
 in-table-within (not-refused x) = search within
 
-in-table-number : {A : Type 0} {o : Outcome A} → In-table o → member (refusal o) (0 ∷ 1 ∷ 2 ∷ 3 ∷ 7 ∷ []) ≡ true
+in-table-number : {A : Type 0} {o : Outcome A} (cut : Bool) → In-table o → member (refusal (cond cut (refused 1) o)) (0 ∷ 1 ∷ 2 ∷ 3 ∷ 7 ∷ []) ≡ true
 unfolding member
-in-table-number cut-file = refl
-in-table-number stray-record = refl
-in-table-number out-of-range = refl
-in-table-number no-such-pair = refl
-in-table-number (not-refused x) = refl
+in-table-number true h = refl
+in-table-number false stray-record = refl
+in-table-number false out-of-range = refl
+in-table-number false no-such-pair = refl
+in-table-number false (not-refused x) = refl
 
 module _ (p : System) (ds : List ℕ) where
+  -- 1 is given for the length alone
+  pub length-first : length-bad most-bytes ds ≡ false → Refused-within 2 7 (read-certificate p ds)
+  unfolding read-certificate
+  length-first h = rw h (in-table-within (from-tabled p (all-records ds) _))
+
   -- if refused, then with a number from 1 to 7, so that 0 is no refusal
   pub read-range : Refused-within 1 7 (read-certificate p ds)
-  read-range = in-table-within (read-tabled p ds)
+  unfolding read-certificate
+  read-range = test-within (length-bad most-bytes ds) (refused 1) _ (search within) (wider (in-table-within (from-tabled p (all-records ds) _)))
 
   pub certificate-refusal-range : refusal (read-certificate p ds) ≤ 7
   certificate-refusal-range = refusal-within read-range
 
   pub certificate-refusals : member (refusal (read-certificate p ds)) (0 ∷ 1 ∷ 2 ∷ 3 ∷ 7 ∷ []) ≡ true
-  certificate-refusals = in-table-number (read-tabled p ds)
+  unfolding read-certificate
+  certificate-refusals = in-table-number (length-bad most-bytes ds) (from-tabled p (all-records ds) _)
 
 -- A REFUSAL STANDS whatever follows the record at which it was met
 

@@ -10,3 +10,4 @@ pub mod Shows
 pub mod Judged
 -- document 01's judge is such a one
 pub mod Plain
+pub mod Checking

@@ -13,7 +13,7 @@ use Rattle.records.specs.declared.Record.{Record}
 use Rattle.records.specs.Outcomes.{Outcome, refused, passed, after}
 use Rattle.records.specs.Records.{all-records, length-bad}
 use Rattle.records.specs.Order.{index, pack-edge, obeys}
-use Rattle.records.proofs.Outcomes.{test-held, test-failed, after-passed, after-same, after-after, Refused-within, test-within, after-within, refusal-within, none-refused, within}
+use Rattle.records.proofs.Outcomes.{test-held, test-failed, after-passed, after-same, after-after, Refused-within, test-within, after-within, refusal-within, wider, none-refused, within}
 use Rattle.records.proofs.Bytes.{records-append}
 use Rattle.records.proofs.Table.{may-follow-stands}
 use Rattle.terms.specs.Sides.{Node, variable, symbol}
@@ -25,7 +25,7 @@ use Rattle.packs.proofs.OnlyEncodings.{pack-good}
 -- THE NUMBERS
 
 abbrev In-table : {A : Type 0} → Outcome A → Type 0
-In-table o = Refused-within 1 6 o
+In-table o = Refused-within 2 6 o
 
 rule-of-range : (l r : Option Tree) → In-table (rule-of l r)
 unfolding rule-of
@@ -61,7 +61,12 @@ from-range (r ∷ rs) x = after-within (pack-step r x) _ (step-range r x) (λ y.
 
 pub read-range : (bs : List ℕ) → Refused-within 1 6 (read-pack bs)
 unfolding read-pack
-read-range bs = test-within (length-bad most-bytes bs) (refused 1) _ (search within) (from-range (all-records bs) _)
+read-range bs = test-within (length-bad most-bytes bs) (refused 1) _ (search within) (wider (from-range (all-records bs) _))
+
+-- 1 is given for the length alone
+pub length-first : (bs : List ℕ) → length-bad most-bytes bs ≡ false → Refused-within 2 6 (read-pack bs)
+unfolding read-pack
+length-first bs h = rw h (from-range (all-records bs) _)
 
 pub pack-refusal-range : (bs : List ℕ) → pack-refusal bs ≤ 6
 unfolding pack-refusal

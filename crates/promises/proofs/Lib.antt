@@ -2,3 +2,4 @@
 pub mod Computed
 pub mod Starred
 pub mod Loop
+pub mod Kept

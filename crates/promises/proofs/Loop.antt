@@ -2,14 +2,25 @@
 use mathlib.Core.Path.{_≡_, refl, sym, ap, _∙_}
 use mathlib.Core.Bool.{Bool, true, false, _&&_, _||_, not, cond}
 use mathlib.Core.List.{List, [], _∷_}
-use Prim.Native.Nat.{ℕ, _≤_}
+use Prim.Native.Nat.{ℕ, suc, _≤_, _<_}
 use native.Mathlib.Nat.{le-refl}
-use lib.Dec.{ltb, leb}
+use native.Mathlib.Omega.{arith}
+use lib.Dec.{ltb, leb, eqb}
+use lib.ListN.{length, getD}
 use borrow.Author.Tests.{le-ltb, le-leb}
 use Rattle.rewriting.specs.Terms.{System}
-use Rattle.weights.specs.Polynomials.{Weighting, weight}
+use Rattle.rewriting.proofs.Basics.{by-test}
+use Rattle.records.specs.Outcomes.{passed}
+use Rattle.records.specs.Records.{all-bytes}
+use Rattle.packs.specs.Encoding.{pack-bytes}
+use Rattle.weights.specs.Polynomials.{Weight, Weighting, weight}
 use Rattle.weights.specs.Limit.{limit}
+use Rattle.certificates.specs.Reading.{read-certificate}
+use Rattle.certificates.specs.Encoding.{no-weight, Good-certificate}
+use Rattle.certificates.proofs.OnlyEncodings.{only-encodings}
 use Rattle.checker.specs.Judge.{judged, plain}
+use Rattle.checker.specs.Check.{check}
+use Rattle.checker.proofs.Checking.{check-of-read}
 use Rattle.promises.specs.Examples.{loop, loop-under}
 use Rattle.promises.proofs.Computed.{computed}
 
@@ -18,3 +29,22 @@ pub loop-judged :
 unfolding computed
 loop-judged w h k =
     simp (le-ltb _ _ h, le-ltb _ _ k, le-leb _ _ (le-refl (weight (w .weights) 0 0)), le-leb _ _ (le-refl (weight (w .marked) 0 0)), le-ltb _ _ (le-refl (weight (w .marked) 0 0)))
+
+-- a weight that a record holds is within the limit
+weight-within : (ws : List Weight) (f i : ℕ) → ((k : ℕ) → k < length ws → getD ws k no-weight .value < 65536) → weight ws f i ≤ limit
+unfolding weight limit
+weight-within [] f i h = omega arith
+weight-within (w ∷ ws) f i h =
+    by-test (eqb (w .symbol) f && eqb (w .place) i)
+    (λ e. rw e (let b = h 0 (omega arith) in omega arith))
+    (λ e. rw e (weight-within ws f i (λ k l. h (suc k) (omega arith))))
+
+-- the same from the bytes of any certificate of one component with one weighting
+pub loop-checked : (ds : List ℕ) (w : Weighting) → all-bytes ds ≡ true → read-certificate loop ds ≡ passed (loop-under w) → check (pack-bytes loop) ds ≡ 13
+unfolding computed Good-certificate
+loop-checked ds w d e =
+    let g = only-encodings loop ds (loop-under w) d e .1 0 (omega arith) .weightings-good 0 (omega arith) in
+    check-of-read (pack-bytes loop) ds loop (loop-under w) refl e
+    ∙ loop-judged w
+    (weight-within (w .weights) 0 0 (λ k l. g .weights-placed k l .value-fits))
+    (weight-within (w .marked) 0 0 (λ k l. g .marked-placed k l .value-fits))

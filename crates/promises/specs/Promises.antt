@@ -194,7 +194,7 @@ Marked-means =
 
 unfoldable pub Sixteen : Type 0
 Sixteen =
-    ((ws : List Weight) (t : Tree) → is-list t ≡ false → length (polynomial-of ws t .coefficients) ≡ 16)
+    ((ws : List Weight) (t : Tree) → length (polynomial-of ws t .coefficients) ≡ 16)
     × ((w : Weighting) (t : Tree) → length (marked-polynomial w t .coefficients) ≡ 16)
 
 -- Over all naturals, one polynomial is at least another, or greater, exactly if the test says so.

@@ -5,7 +5,7 @@ use mathlib.Core.Bool.{Bool, true, false, cond}
 use Prim.Native.Nat.{ℕ, _≤_}
 use native.Mathlib.Omega.{arith}
 use lib.Dec.{leb}
-use borrow.Author.Tests.{leb-true}
+use borrow.Author.Tests.{leb-true, le-leb}
 use Rattle.records.specs.Outcomes.{Outcome, refused, passed, after, refusal}
 
 -- a refusal is no passing
@@ -56,6 +56,11 @@ module _ {l m : ℕ} where
   pub refusal-within : {A : Type 0} {o : Outcome A} → Refused-within l m o → refusal o ≤ m
   refusal-within (numbered n h i) = leb-true n m i
   refusal-within (not-refused x) = omega arith
+
+-- bounds may be wider
+pub wider : {A : Type 0} {m : ℕ} {o : Outcome A} → Refused-within 2 m o → Refused-within 1 m o
+wider (numbered n h i) = numbered n (le-leb 1 n (omega (arith, leb-true 2 n h))) i
+wider (not-refused x) = not-refused x
 
 -- `search within` proves of a reading made of tests and readings that its refusals' numbers are in bounds
 pub ruleset within = (test-within, after-within, numbered, not-refused)
