@@ -13,7 +13,6 @@ use Rattle.records.specs.Rising.{rising}
 use Rattle.pairs.specs.Listing.{a-pair, pair-records}
 use Rattle.weights.specs.Polynomials.{Weight, Weighting}
 use Rattle.certificates.specs.Components.{Component, no-component, no-weighting}
-use Rattle.certificates.specs.Reading.{most-pairs, most-weightings}
 
 unfoldable pub weight-records : (kind : ℕ) → List Weight → List Record
 weight-records k [] = []
@@ -49,11 +48,11 @@ pub record Good-weighting (p : System) (w : Weighting) : Type 0 where
   pub marked-placed : (k : ℕ) → k < length (w .marked) → Placed p (getD (w .marked) k no-weight)
   pub marked-defined : (k : ℕ) → k < length (w .marked) → defined p (getD (w .marked) k no-weight .symbol) ≡ true
 
--- what document 01 allows a component to be
+-- what document 01 allows a component to be, in its own numbers
 pub record Good-component (p : System) (c : Component) : Type 0 where
-  pub weightings-few : length (c .weightings) ≤ most-weightings
+  pub weightings-few : length (c .weightings) ≤ 1
   pub pairs-some : 1 ≤ length (c .pairs)
-  pub pairs-few : length (c .pairs) ≤ most-pairs
+  pub pairs-few : length (c .pairs) ≤ 2048
   pub alone : length (c .weightings) ≡ 0 → length (c .pairs) ≡ 1
   pub pairs-rise : rising (λ q. q .at-rule) (λ q. q .place) (c .pairs) ≡ true
   pub are-pairs : (k : ℕ) → k < length (c .pairs) → is-pair p (getD (c .pairs) k (a-pair 0 0)) ≡ true

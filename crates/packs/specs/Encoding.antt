@@ -10,7 +10,6 @@ use Rattle.records.specs.declared.Record.{Record}
 use Rattle.records.specs.Records.{a-record, all-record-bytes}
 use Rattle.records.specs.Order.{S-symbol, R-rule, F-application, V-variable}
 use Rattle.terms.specs.Sides.{Node, variable, symbol, flat}
-use Rattle.packs.specs.Reading.{most-symbols, most-arity, most-rules, most-nodes}
 
 unfoldable pub node-record : Node → Record
 node-record (variable v) = a-record V-variable v 0 0
@@ -37,11 +36,11 @@ pack-records p = symbol-records 0 (p .arities) ++ rule-records 0 (p .rules)
 unfoldable pub pack-bytes : System → List ℕ
 pack-bytes p = all-record-bytes (pack-records p)
 
--- what document 01 allows a pack to be
+-- what document 01 allows a pack to be, in its own numbers
 pub record Good-pack (p : System) : Type 0 where
-  pub symbols : length (p .arities) ≤ most-symbols
-  pub arities-small : (f : ℕ) → f < length (p .arities) → getD (p .arities) f 0 ≤ most-arity
-  pub rule-count : length (p .rules) ≤ most-rules
-  pub lefts : (i : ℕ) → i < length (p .rules) → length (flat (rule p i .left)) ≤ most-nodes
-  pub rights : (i : ℕ) → i < length (p .rules) → length (flat (rule p i .right)) ≤ most-nodes
+  pub symbols : length (p .arities) ≤ 64
+  pub arities-small : (f : ℕ) → f < length (p .arities) → getD (p .arities) f 0 ≤ 8
+  pub rule-count : length (p .rules) ≤ 64
+  pub lefts : (i : ℕ) → i < length (p .rules) → length (flat (rule p i .left)) ≤ 32
+  pub rights : (i : ℕ) → i < length (p .rules) → length (flat (rule p i .right)) ≤ 32
   pub good : Good p
