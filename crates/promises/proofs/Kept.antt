@@ -49,6 +49,7 @@ use Rattle.checker.proofs.Plain.{judged-plain-terminates}
 use Rattle.promises.specs.Promises
 use Rattle.promises.proofs.Starred.{starred-cases}
 use Rattle.promises.proofs.Loop.{loop-checked}
+use Rattle.promises.proofs.Concrete.{minus-term, minus-step, first-valid, minus-follows}
 
 -- THE THIRD DEMAND
 good : (bs : List ℕ) → pack-refusal bs ≡ 0 → Good (pack-in bs)
@@ -257,3 +258,11 @@ starred-cases-kept = starred-cases
 pub loop-refused : Promises.Loop-refused
 unfolding Promises.Loop-refused
 loop-refused ds w d e = loop-checked ds w d e
+
+pub concrete-step : Promises.Concrete-step
+unfolding Promises.Concrete-step
+concrete-step = (minus-term, minus-step)
+
+pub concrete-chain : Promises.Concrete-chain
+unfolding Promises.Concrete-chain
+concrete-chain = (_, _, first-valid, minus-follows)

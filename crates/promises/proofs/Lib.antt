@@ -2,4 +2,5 @@
 pub mod Computed
 pub mod Starred
 pub mod Loop
+pub mod Concrete
 pub mod Kept

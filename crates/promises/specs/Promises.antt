@@ -10,7 +10,7 @@ use Rattle.rewriting.specs.Terms.{Tree, System, rule, is-list, is-term}
 use Rattle.rewriting.specs.Steps.{full, Step}
 use Rattle.rewriting.specs.Termination.{SN}
 use Rattle.rewriting.specs.Pairs.{Pair, is-pair, pair-left, pair-right, same-root, has-root, arguments, defined}
-use Rattle.rewriting.specs.Chains.{Link, Next, Terminating, Chains-terminating}
+use Rattle.rewriting.specs.Chains.{Link, Valid, Next, Terminating, Chains-terminating}
 use Rattle.rewriting.specs.Systems.{variables-below}
 use Rattle.records.specs.declared.Record.{Record}
 use Rattle.records.specs.Outcomes.{Outcome, refused, passed, refusal}
@@ -32,7 +32,7 @@ use Rattle.certificates.specs.Reading.{read-certificate, cert-from, cert-steps}
 use Rattle.certificates.specs.Encoding.{certificate-bytes, Good-certificate}
 use Rattle.checker.specs.Check.{check}
 use Rattle.checker.specs.Shown.{Each-once, No-back-arc, First-failure, Shows}
-use Rattle.promises.specs.Examples.{Case, starred, loop, loop-under}
+use Rattle.promises.specs.Examples.{Case, starred, division, loop, loop-under, constant, app₂}
 
 -- THE THIRD DEMAND
 -- For every pack that passes 1 to 6, all derivations from all terms end exactly when all chains of its pairs end.
@@ -223,3 +223,11 @@ Starred-cases = map (λ c. check (pack-bytes (c .pack)) (certificate-bytes (c .c
 unfoldable pub Loop-refused : Type 0
 Loop-refused =
     (ds : List ℕ) (w : Weighting) → all-bytes ds ≡ true → read-certificate loop ds ≡ passed (loop-under w) → check (pack-bytes loop) ds ≡ 13
+
+-- There are terms, steps and chains: Division rewrites minus(zero, zero) to zero, and its pair (1, 0) may follow itself.
+unfoldable pub Concrete-step : Type 0
+Concrete-step =
+    (is-term division (app₂ 2 (constant 0) (constant 0)) ≡ true) × Step division full (app₂ 2 (constant 0) (constant 0)) (constant 0)
+
+unfoldable pub Concrete-chain : Type 0
+Concrete-chain = (x : Link) × (y : Link) × Valid division full x × Next division full x y

@@ -3,3 +3,5 @@ pub mod Outcomes
 pub mod Records
 pub mod Order
 pub mod Rising
+pub mod Wanted
+pub mod Answers

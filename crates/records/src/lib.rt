@@ -1,4 +1,13 @@
-// Records of 8 bytes, of which both files are made.
+// Records of 8 bytes, of which both files are made, and the table of which kind may stand after which.
+pub mod order;
+
+ghost use mathlib.Core.Path.{_≡_};
+ghost use Prim.Native.Nat.{_+_, _≤_, _<_};
+ghost use lib.ListN.{length};
+ghost use Rattle.records.specs.Records.{two, record-at};
+ghost use Rattle.records.specs.Order.{index, may-follow};
+ghost use Rattle.records.specs.Wanted.{wanted-at};
+ghost use Rattle.records.specs.Answers.{number-of};
 
 // A record as its fields. Byte 0 is the kind, byte 1 is `one`, and a, b and c are two bytes each, low byte first.
 pub struct Record {
@@ -7,4 +16,96 @@ pub struct Record {
     pub a: u16,
     pub b: u16,
     pub c: u16,
+}
+
+// Document 01's refusals 1 to 14, in its order.
+pub enum Refusal {
+    CutFile,
+    StrayRecord,
+    OutOfRange,
+    BrokenSide,
+    BareLeft,
+    LooseVariable,
+    NoSuchPair,
+    PairCount,
+    BackArc,
+    SelfArc,
+    Heavy,
+    RuleRises,
+    PairStays,
+    ShortList,
+}
+
+// A number to go on with, or a refusal.
+pub enum Answer {
+    Passed(usize),
+    Refused(Refusal),
+}
+
+// What stands at a place: a record of a kind that may stand there, or another.
+pub enum Wanted {
+    Found(Record),
+    Stray,
+}
+
+// The refusal's number in document 01's table.
+pub fn number(x: Refusal) -> u32
+    ensures { λ r. ⌜ r ≡ number-of x ⌝ }
+{
+    match x {
+        Refusal::CutFile => 1,
+        Refusal::StrayRecord => 2,
+        Refusal::OutOfRange => 3,
+        Refusal::BrokenSide => 4,
+        Refusal::BareLeft => 5,
+        Refusal::LooseVariable => 6,
+        Refusal::NoSuchPair => 7,
+        Refusal::PairCount => 8,
+        Refusal::BackArc => 9,
+        Refusal::SelfArc => 10,
+        Refusal::Heavy => 11,
+        Refusal::RuleRises => 12,
+        Refusal::PairStays => 13,
+        Refusal::ShortList => 14,
+    }
+}
+
+fn low(x: u8) -> u16
+    ensures { λ r. ⌜ (r ≡ x) × (r < 256) ⌝ }
+{
+    x as u16
+}
+
+// Bytes i and i + 1 as a number.
+fn two(s: &[u8], i: usize) -> u16
+    requires { ⌜ i + 1 < length (now s) ⌝ }
+    ensures { λ r. ⌜ r ≡ two (now (s .entry)) i ⌝ }
+{
+    low(s[i]) + 256 * low(s[i + 1])
+}
+
+// The record that begins at byte i.
+pub fn record_at(s: &[u8], i: usize) -> Record
+    requires { ⌜ i + 8 ≤ length (now s) ⌝ }
+    ensures { λ r. ⌜ r ≡ record-at (now (s .entry)) i ⌝ }
+{
+    Record {
+        kind: s[i],
+        one: s[i + 1],
+        a: two(s, i + 2),
+        b: two(s, i + 4),
+        c: two(s, i + 6),
+    }
+}
+
+// The record that begins at byte i, if the table lets its kind stand there.
+pub fn read_wanted(s: &[u8], i: usize, before: usize, due: usize, weighted: bool) -> Wanted
+    requires { ⌜ (i + 8 ≤ length (now s)) × (before < 11) ⌝ }
+    ensures { λ r. ⌜ r ≡ wanted-at (now (s .entry)) i before due weighted ⌝ }
+{
+    let r = record_at(s, i);
+    if order::may_follow(before, order::index(r.kind), due, weighted) {
+        return Wanted::Found(r);
+    }
+    Wanted::Stray
 }

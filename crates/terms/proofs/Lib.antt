@@ -1,2 +1,4 @@
--- Facts about terms as their nodes in prefix order: parsing is the inverse of flattening.
+-- Reading terms from their nodes and back; the nodes kept as bytes, and what is still to be read in a walk over them.
 pub mod Parsing
+pub mod Parts
+pub mod Rests

@@ -1,1 +1,54 @@
 // Terms kept as bytes, a byte a node in prefix order.
+ghost use mathlib.Core.Path.{_≡_};
+ghost use Prim.Native.Nat.{_+_, _≤_, _<_};
+ghost use lib.ListN.{length};
+ghost use Rattle.terms.specs.Sides.{flat};
+ghost use Rattle.terms.specs.Kept.{code-arity, balanced, part, Term-at};
+
+// A plain symbol, and the tuple symbol (document 01: marked symbol) of a defined one: never taken for each other.
+pub struct Symbol(pub u16);
+
+pub struct Marked(pub u16);
+
+// How many arguments a node has.
+pub fn code_arity(arities: &[u8], code: u8) -> usize
+    requires { ⌜ length (now arities) ≡ 64 ⌝ }
+    ensures { λ r. ⌜ (r ≡ code-arity (now (arities .entry)) code) × (r < 256) ⌝ }
+{
+    let c = code as usize;
+    if c < 64 {
+        return arities[c] as usize;
+    }
+    0
+}
+
+// The nodes are exactly one term.
+pub fn is_one_term(arities: &[u8], nodes: &[u8], from: usize, to: usize) -> bool
+    requires { ⌜ (length (now arities) ≡ 64) × (from ≤ to) × (to ≤ length (now nodes)) × (to ≤ 65536) ⌝ }
+    ensures { λ r. ⌜ r ≡ balanced (now (arities .entry)) 1 (part (now (nodes .entry)) from to) ⌝ }
+{
+    let mut wanted = 1;
+    let mut i = from;
+    while i < to {
+        if wanted == 0 {
+            return false;
+        }
+        wanted = wanted - 1 + code_arity(arities, nodes[i]);
+        i = i + 1;
+    }
+    wanted == 0
+}
+
+// The place after the term that is kept at `at`.
+pub fn skip(arities: &[u8], nodes: &[u8], at: usize) -> usize
+    requires { ⌜ (length (now arities) ≡ 64) × (length (now nodes) ≤ 65536) × Term-at (now arities) (now nodes) at ⌝ }
+    ensures { λ r. ⌜ ((s : Term-at (now (arities .entry)) (now (nodes .entry)) at) → r ≡ at + length (flat (s .term))) ⌝ }
+{
+    let mut wanted = 1;
+    let mut i = at;
+    while 0 < wanted {
+        wanted = wanted - 1 + code_arity(arities, nodes[i]);
+        i = i + 1;
+    }
+    i
+}

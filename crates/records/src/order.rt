@@ -1,0 +1,184 @@
+// Which kind may stand after which.
+ghost use mathlib.Core.Path.{_≡_};
+ghost use Prim.Native.Nat.{_+_, _*_, _<_};
+ghost use lib.ListN.{getD};
+ghost use Rattle.records.specs.Order.{order, index, lets, may-follow};
+
+// A row for what stands before, a column for what comes; specs/Order.antt says what the entries mean.
+const ORDER: [u8; 121] = [
+    1,
+    1,
+    0,
+    0,
+    0,
+    0,
+    0,
+    0,
+    0,
+    0,
+    0,
+    1,
+    1,
+    1,
+    0,
+    0,
+    0,
+    0,
+    0,
+    0,
+    0,
+    0,
+    0,
+    0,
+    0,
+    1,
+    1,
+    0,
+    0,
+    0,
+    0,
+    0,
+    0,
+    3,
+    0,
+    3,
+    2,
+    2,
+    0,
+    0,
+    0,
+    0,
+    0,
+    0,
+    3,
+    0,
+    3,
+    2,
+    2,
+    0,
+    0,
+    0,
+    0,
+    0,
+    0,
+    0,
+    0,
+    0,
+    0,
+    0,
+    1,
+    1,
+    0,
+    0,
+    0,
+    0,
+    0,
+    0,
+    0,
+    0,
+    0,
+    0,
+    0,
+    1,
+    0,
+    0,
+    0,
+    0,
+    0,
+    0,
+    0,
+    0,
+    3,
+    3,
+    2,
+    4,
+    4,
+    0,
+    0,
+    0,
+    0,
+    0,
+    0,
+    1,
+    1,
+    0,
+    1,
+    1,
+    0,
+    0,
+    0,
+    0,
+    0,
+    0,
+    1,
+    1,
+    0,
+    0,
+    1,
+    0,
+    0,
+    0,
+    0,
+    0,
+    0,
+    0,
+    0,
+    0,
+    0,
+    0,
+    0,
+];
+
+fn entry(before: usize, next: usize) -> u8
+    requires { ⌜ (before < 11) × (next < 11) ⌝ }
+    ensures { λ r. ⌜ r ≡ getD order (11 * before + next) 0 ⌝ }
+{
+    ORDER[11 * before + next]
+}
+
+// A kind's row and column.
+pub fn index(kind: u8) -> usize
+    ensures row { λ r. ⌜ r ≡ index kind ⌝ }
+    ensures small { λ r. ⌜ r < 11 ⌝ }
+{
+    match kind {
+        b'S' => 1,
+        b'R' => 2,
+        b'F' => 3,
+        b'V' => 4,
+        b'C' => 6,
+        b'P' => 7,
+        b'W' => 8,
+        b'M' => 9,
+        _ => 10,
+    }
+}
+
+// Whether an entry lets a record stand, by the count still due and whether the component has a weighting.
+fn lets(entry: u8, due: usize, weighted: bool) -> bool
+    ensures { λ r. ⌜ r ≡ lets entry due weighted ⌝ }
+{
+    if entry == 0 {
+        return false;
+    }
+    if entry == 1 {
+        return true;
+    }
+    if entry == 2 {
+        return 1 <= due;
+    }
+    if entry == 3 {
+        return due == 0;
+    }
+    if due == 0 {
+        return weighted;
+    }
+    false
+}
+
+pub fn may_follow(before: usize, next: usize, due: usize, weighted: bool) -> bool
+    requires { ⌜ (before < 11) × (next < 11) ⌝ }
+    ensures { λ r. ⌜ r ≡ may-follow before next due weighted ⌝ }
+{
+    lets(entry(before, next), due, weighted)
+}
