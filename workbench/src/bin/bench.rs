@@ -1,0 +1,184 @@
+//! Prints how the implementations compare on the same files, as ratios measured in one run.
+//!
+//! Times differ from machine to machine, so no test should look at them: only ratios are printed.
+//! A busy machine spoils ratios too: run it twice and trust only what stays.
+//! `bench [rounds]`: more rounds, steadier ratios (20 by default).
+
+use std::hint::black_box;
+use std::time::{Duration, Instant};
+use workbench::checker::{is_defined, judge_pack, pairs};
+use workbench::encode::{certificate_bytes, pack_bytes};
+use workbench::generate::packs::{dense, guided, Base, Size};
+use workbench::implementation::{all, Implementation};
+use workbench::random::Random;
+use workbench::slow;
+
+/// Files that are checked one after the other, and a question for each pack.
+struct Workload {
+    name: String,
+    files: Vec<File>,
+}
+
+struct File {
+    pack: Vec<u8>,
+    certificate: Vec<u8>,
+    question: [u32; 4],
+}
+
+/// What is measured: asks one implementation everything, answers the greatest number given.
+type Job<'a> = &'a dyn Fn(&dyn Implementation) -> u32;
+
+struct Bench {
+    implementations: Vec<Box<dyn Implementation>>,
+    rounds: usize,
+}
+
+fn main() {
+    let rounds = std::env::args().nth(1).and_then(|word| word.parse().ok()).unwrap_or(20);
+    let bench = Bench { implementations: all(), rounds };
+    println!("time of each in times of the tuned one; at the end the greatest number each answered\n");
+    bench.header("check");
+    for workload in workloads() {
+        bench.ratios(&workload.name, &|one| check_all(one, &workload));
+    }
+    bench.header("\nlist");
+    for workload in workloads().iter().take(4) {
+        bench.ratios(&workload.name, &|one| list_all(one, workload));
+    }
+    bench.header("\narc question");
+    for workload in workloads().iter().take(7) {
+        bench.ratios(&workload.name, &|one| ask_all(one, workload));
+    }
+    println!("\ngrowth of check: time of each in times of its own time one line above\n");
+    bench.growth("pairs in one component", &[127, 255, 511, 1_023, 2_047], pairs_base);
+    bench.growth("pairs without weights", &[64, 128, 256, 512], |pairs| slow::few_arcs(pairs / 64));
+    bench.growth("components, weights differ", &[27, 54, 109, 218, 437], |count| slow::chains(count, true));
+    bench.growth("components, weights equal", &[27, 54, 109, 218, 437], |count| slow::chains(count, false));
+}
+
+// ---------------------------------------------------------------- files
+
+fn workload(name: &str, bases: impl IntoIterator<Item = Base>) -> Workload {
+    Workload { name: name.to_string(), files: bases.into_iter().map(file).collect() }
+}
+
+/// The question is about the first and the last pair.
+fn file(base: Base) -> File {
+    let pack = pack_bytes(&base.pack);
+    let all = judge_pack(&pack).map(|pack| pairs(&pack)).unwrap_or_default();
+    let ends = (all.first().copied().unwrap_or_default(), all.last().copied().unwrap_or_default());
+    let question = [ends.0 .0, ends.0 .1, ends.1 .0, ends.1 .1].map(u32::from);
+    File { pack, certificate: certificate_bytes(&base.components), question }
+}
+
+fn seeded(count: u64, make: impl Fn(&mut Random) -> Base) -> Vec<Base> {
+    let bases = (1..).map(|seed| make(&mut Random::new(seed * 7_919)));
+    bases.filter(|base| !base.components.is_empty()).take(count as usize).collect()
+}
+
+fn workloads() -> Vec<Workload> {
+    vec![
+        workload("typical packs, 5 to 20 rules", seeded(200, |random| guided(random, Size::Typical))),
+        workload("large packs, 20 to 64 rules", seeded(40, |random| guided(random, Size::Large))),
+        workload("packs at the limits", seeded(20, |random| guided(random, Size::Limit))),
+        workload("2,047 pairs", seeded(5, |random| dense(random, 1))),
+        workload("arcs: walks of 2 nodes", [slow::arcs(2)]),
+        workload("arcs: walks of 6 nodes", [slow::arcs(6)]),
+        workload("arcs: walks of 30 nodes", [slow::arcs(30)]),
+        workload("weights: chains, all differ", [slow::chains(437, true)]),
+        workload("weights: chains, all equal", [slow::chains(437, false)]),
+        workload("weights: 16 variables", [slow::wide(384)]),
+        workload("weights: at the brink", [slow::brink(335)]),
+    ]
+}
+
+/// About so many pairs in one component, with as many rules as needed.
+fn pairs_base(count: usize) -> Base {
+    let mut base = dense(&mut Random::new(5), 1);
+    base.pack.rules.truncate(count.div_ceil(32));
+    let mut component = base.components.iter().find(|component| component.weighted).cloned().unwrap_or_default();
+    component.marked.retain(|(symbol, _), _| is_defined(&base.pack, *symbol));
+    component.pairs = pairs(&base.pack);
+    base.components = vec![component];
+    base
+}
+
+// ---------------------------------------------------------------- jobs
+
+fn check_all(one: &dyn Implementation, workload: &Workload) -> u32 {
+    let answers = workload.files.iter().map(|file| one.check(black_box(&file.pack), black_box(&file.certificate)));
+    answers.fold(0, u32::max)
+}
+
+fn list_all(one: &dyn Implementation, workload: &Workload) -> u32 {
+    let mut list = [0; 2_048 * 8];
+    let answers = workload.files.iter().map(|file| one.list(black_box(&file.pack), &mut list).0);
+    answers.fold(0, u32::max)
+}
+
+fn ask_all(one: &dyn Implementation, workload: &Workload) -> u32 {
+    let answers = workload.files.iter().map(|file| one.arc(black_box(&file.pack), black_box(file.question)).0);
+    answers.fold(0, u32::max)
+}
+
+// ---------------------------------------------------------------- measuring
+
+impl Bench {
+    fn header(&self, what: &str) {
+        let names: Vec<String> = self.implementations.iter().map(|one| format!("{:>9}", one.name())).collect();
+        let (space, what) = what.split_at(what.len() - what.trim_start().len());
+        println!("{space}{what:<34}{}  answers", names.concat());
+    }
+
+    /// One line: all in times of the tuned one.
+    fn ratios(&self, name: &str, job: Job) {
+        let times = self.measure(job);
+        let tuned = self.implementations.iter().position(|one| one.name() == "tuned").unwrap_or(0);
+        let unit = times[tuned];
+        self.line(name, times.iter().map(|time| Some(time.div_duration_f64(unit))), job);
+    }
+
+    /// One line a size, each in times of the line above.
+    fn growth(&self, name: &str, sizes: &[usize], make: impl Fn(usize) -> Base) {
+        self.header(name);
+        let mut before: Vec<Option<Duration>> = vec![None; self.implementations.len()];
+        for size in sizes {
+            let workload = workload(name, [make(*size)]);
+            let job: Job = &|one| check_all(one, &workload);
+            let times = self.measure(job);
+            let factors =
+                times.iter().zip(&before).map(|(time, before)| before.map(|before| time.div_duration_f64(before)));
+            self.line(&size.to_string(), factors, job);
+            before = times.into_iter().map(Some).collect();
+        }
+        println!();
+    }
+
+    fn line(&self, name: &str, numbers: impl Iterator<Item = Option<f64>>, job: Job) {
+        let numbers: Vec<String> = numbers.map(|n| n.map_or(format!("{:>9}", "-"), |n| format!("{n:>9.2}"))).collect();
+        let answers: Vec<String> = self.implementations.iter().map(|one| job(one.as_ref()).to_string()).collect();
+        println!("{name:<34}{}  {}", numbers.concat(), answers.join(" "));
+    }
+
+    /// The shortest of some rounds, taken in turns so that all meet the same weather.
+    fn measure(&self, job: Job) -> Vec<Duration> {
+        let mut best = vec![Duration::MAX; self.implementations.len()];
+        for _ in 0..self.rounds {
+            for (one, best) in self.implementations.iter().zip(&mut best) {
+                *best = (*best).min(time_of(one.as_ref(), job));
+            }
+        }
+        best
+    }
+}
+
+/// Repeats until the clock is fine enough; answers the time of one.
+fn time_of(one: &dyn Implementation, job: Job) -> Duration {
+    let start = Instant::now();
+    let mut times = 0;
+    while times == 0 || start.elapsed() < Duration::from_millis(1) {
+        black_box(job(one));
+        times += 1;
+    }
+    start.elapsed() / times
+}

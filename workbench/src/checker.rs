@@ -1,0 +1,577 @@
+//! An independent checker, written from document 01 alone.
+//!
+//! Trees, vectors and obvious loops; each function cites the sentence of document 01 it stands for.
+//! Speed is no aim here: see `tuned.rs` for the fast one.
+
+use std::collections::BTreeMap;
+
+/// "pack at most 33,792 bytes"
+pub const PACK_LIMIT: usize = 33_792;
+/// "certificate at most 24,576"
+pub const CERTIFICATE_LIMIT: usize = 24_576;
+/// "At most 64 symbols"
+pub const SYMBOL_LIMIT: usize = 64;
+/// "64 rules"
+pub const RULE_LIMIT: usize = 64;
+/// "1 to 32 nodes a side"
+pub const NODE_LIMIT: u16 = 32;
+/// "arity, 0 to 8"
+pub const ARITY_LIMIT: u16 = 8;
+/// "V variable | pack | 0 to 15"
+pub const VARIABLE_LIMIT: u16 = 15;
+/// "pairs, 1 to 2,048"
+pub const PAIR_LIMIT: u16 = 2_048;
+/// "Every constant and coefficient of every node's form is at most 4,294,967,295"
+pub const FORM_LIMIT: u64 = 4_294_967_295;
+
+/// The table "The loader's numbers".
+pub const CUT_FILE: u32 = 1;
+pub const STRAY_RECORD: u32 = 2;
+pub const OUT_OF_RANGE: u32 = 3;
+pub const BROKEN_SIDE: u32 = 4;
+pub const BARE_LEFT: u32 = 5;
+pub const LOOSE_VARIABLE: u32 = 6;
+pub const NO_SUCH_PAIR: u32 = 7;
+pub const PAIR_COUNT: u32 = 8;
+pub const BACK_ARC: u32 = 9;
+pub const SELF_ARC: u32 = 10;
+pub const HEAVY: u32 = 11;
+pub const RULE_RISES: u32 = 12;
+pub const PAIR_STAYS: u32 = 13;
+pub const SHORT_LIST: u32 = 14;
+
+/// "A term over a pack is a variable, or a symbol of the pack with as many terms as its arity."
+#[derive(Clone, Debug, PartialEq, Eq)]
+pub enum Term {
+    Variable(u16),
+    Apply(u16, Vec<Term>),
+}
+
+/// A rule is its two sides.
+#[derive(Clone, Debug, PartialEq, Eq)]
+pub struct Rule {
+    pub left: Term,
+    pub right: Term,
+}
+
+/// A pack is its symbols' arities and its rules.
+#[derive(Clone, Debug, Default, PartialEq, Eq)]
+pub struct Pack {
+    pub arities: Vec<u16>,
+    pub rules: Vec<Rule>,
+}
+
+/// "A pair (rule, place)"
+pub type Pair = (u16, u16);
+
+/// Values by (symbol, place): "W weight | certificate | symbol | 0 constant, i argument i | value"
+pub type Weights = BTreeMap<(u16, u16), u16>;
+
+/// One C record and what follows it.
+#[derive(Clone, Debug, Default, PartialEq, Eq)]
+pub struct Component {
+    pub weighted: bool,
+    pub pairs: Vec<Pair>,
+    pub plain: Weights,
+    pub marked: Weights,
+}
+
+/// "a constant and a coefficient for each variable, in whole numbers"
+#[derive(Clone, Debug, Default, PartialEq, Eq)]
+pub struct Form {
+    pub constant: u64,
+    pub coefficients: BTreeMap<u16, u64>,
+}
+
+// ---------------------------------------------------------------- the three questions
+
+/// The check: 0 for accepted, else the number of the refusal.
+pub fn check(pack: &[u8], certificate: &[u8]) -> u32 {
+    match judge(pack, certificate) {
+        Ok(()) => 0,
+        Err(number) => number,
+    }
+}
+
+/// "The listing judges the pack alone (1 to 6), then 14."
+pub fn list(pack: &[u8], room: usize) -> Result<Vec<Pair>, u32> {
+    let pack = judge_pack(pack)?;
+    let pairs = pairs(&pack);
+    demand(pairs.len() * 8 <= room, SHORT_LIST)?;
+    Ok(pairs)
+}
+
+/// "The arc question judges the pack, then 7 for its two pairs."
+pub fn arc(pack: &[u8], rule: u32, place: u32, other_rule: u32, other_place: u32) -> Result<bool, u32> {
+    let pack = judge_pack(pack)?;
+    let from = named_pair(&pack, rule, place)?;
+    let to = named_pair(&pack, other_rule, other_place)?;
+    Ok(arc_runs(&pack, from, to))
+}
+
+/// "Order: 1 for the pack, 1 for the certificate, then the pack .., then the certificate .., then 8, then 9, then each component in turn"
+fn judge(pack: &[u8], certificate: &[u8]) -> Result<(), u32> {
+    judge_length(pack, PACK_LIMIT)?;
+    judge_length(certificate, CERTIFICATE_LIMIT)?;
+    let pack = read_pack(pack)?;
+    let components = read_certificate(certificate, &pack)?;
+    judge_pair_count(&pack, &components)?;
+    judge_back_arcs(&pack, &components)?;
+    for component in &components {
+        judge_component(&pack, component)?;
+    }
+    Ok(())
+}
+
+/// "A pack passes 1 to 6 if, judged alone, it is given none of these numbers"
+pub fn judge_pack(file: &[u8]) -> Result<Pack, u32> {
+    judge_length(file, PACK_LIMIT)?;
+    read_pack(file)
+}
+
+/// "a length is over its limit or no multiple of 8"
+fn judge_length(file: &[u8], limit: usize) -> Result<(), u32> {
+    demand(file.len() <= limit && file.len().is_multiple_of(8), CUT_FILE)
+}
+
+/// "A refusal is the number alone"
+fn demand(holds: bool, number: u32) -> Result<(), u32> {
+    if holds {
+        Ok(())
+    } else {
+        Err(number)
+    }
+}
+
+// ---------------------------------------------------------------- records
+
+/// "Byte 0 is the kind .. Byte 1 is zero. Bytes 2-3, 4-5 and 6-7 are a, b and c, unsigned, low byte first"
+#[derive(Clone, Copy, Debug, PartialEq, Eq)]
+struct Record {
+    kind: u8,
+    zero: u8,
+    a: u16,
+    b: u16,
+    c: u16,
+}
+
+/// "Both files are read by one record reader that knows its place."
+struct Reader<'a> {
+    file: &'a [u8],
+    offset: usize,
+}
+
+impl Reader<'_> {
+    /// "Both files are records of 8 bytes without a header."
+    fn peek(&self) -> Option<Record> {
+        let bytes = self.file.get(self.offset..self.offset + 8)?;
+        let field = |at: usize| u16::from_le_bytes([bytes[at], bytes[at + 1]]);
+        Some(Record { kind: bytes[0], zero: bytes[1], a: field(2), b: field(4), c: field(6) })
+    }
+
+    /// The kind that stands next, none at the file's end.
+    fn kind(&self) -> Option<u8> {
+        self.peek().map(|record| record.kind)
+    }
+
+    /// "A record that is not of the kind wanted ends the reading there, with number 2."
+    fn take(&mut self, kinds: &[u8]) -> Result<Record, u32> {
+        let record = self.peek().ok_or(STRAY_RECORD)?;
+        demand(kinds.contains(&record.kind), STRAY_RECORD)?;
+        demand(record.zero == 0, STRAY_RECORD)?;
+        self.offset += 8;
+        Ok(record)
+    }
+}
+
+// ---------------------------------------------------------------- the pack
+
+/// "start of pack | S, end" and "S | S, R, end" and "F or V | .. R, end after it"
+fn read_pack(file: &[u8]) -> Result<Pack, u32> {
+    let mut reader = Reader { file, offset: 0 };
+    let mut pack = Pack::default();
+    while reader.kind() == Some(b'S') {
+        let arity = read_symbol(&mut reader, pack.arities.len())?;
+        pack.arities.push(arity);
+    }
+    // A rule may not stand at the start of a pack.
+    demand(reader.kind().is_none() || !pack.arities.is_empty(), STRAY_RECORD)?;
+    while reader.kind().is_some() {
+        let rule = read_rule(&mut reader, &pack)?;
+        pack.rules.push(rule);
+    }
+    Ok(pack)
+}
+
+/// "S symbol | pack | its number, 0, 1, 2 .. | arity, 0 to 8 | "
+fn read_symbol(reader: &mut Reader, number: usize) -> Result<u16, u32> {
+    let record = reader.take(b"S")?;
+    demand(record.c == 0, STRAY_RECORD)?;
+    demand(usize::from(record.a) == number, STRAY_RECORD)?;
+    demand(number < SYMBOL_LIMIT, OUT_OF_RANGE)?;
+    demand(record.b <= ARITY_LIMIT, OUT_OF_RANGE)?;
+    Ok(record.b)
+}
+
+/// "after a rule's last node 4 left, 4 right, 5, 6"
+fn read_rule(reader: &mut Reader, pack: &Pack) -> Result<Rule, u32> {
+    let (left_nodes, right_nodes) = read_rule_head(reader, pack.rules.len())?;
+    let left = read_nodes(reader, left_nodes, pack)?;
+    let right = read_nodes(reader, right_nodes, pack)?;
+    let left = one_term(&left, &pack.arities)?;
+    let right = one_term(&right, &pack.arities)?;
+    demand(matches!(left, Term::Apply(..)), BARE_LEFT)?;
+    demand(variables_within(&right, &left), LOOSE_VARIABLE)?;
+    Ok(Rule { left, right })
+}
+
+/// "R rule | pack | its number, 0, 1, 2 .. | nodes on the left | nodes on the right"
+fn read_rule_head(reader: &mut Reader, number: usize) -> Result<(u16, u16), u32> {
+    let record = reader.take(b"R")?;
+    demand(usize::from(record.a) == number, STRAY_RECORD)?;
+    demand(number < RULE_LIMIT, OUT_OF_RANGE)?;
+    demand((1..=NODE_LIMIT).contains(&record.b), OUT_OF_RANGE)?;
+    demand((1..=NODE_LIMIT).contains(&record.c), OUT_OF_RANGE)?;
+    Ok((record.b, record.c))
+}
+
+/// "A side is its nodes in prefix order."
+fn read_nodes(reader: &mut Reader, count: u16, pack: &Pack) -> Result<Vec<Record>, u32> {
+    let mut nodes = Vec::new();
+    for _ in 0..count {
+        nodes.push(read_node(reader, pack)?);
+    }
+    Ok(nodes)
+}
+
+/// "F application | pack | symbol" and "V variable | pack | 0 to 15"
+fn read_node(reader: &mut Reader, pack: &Pack) -> Result<Record, u32> {
+    let record = reader.take(b"FV")?;
+    demand(record.b == 0 && record.c == 0, STRAY_RECORD)?;
+    if record.kind == b'F' {
+        demand(usize::from(record.a) < pack.arities.len(), OUT_OF_RANGE)?;
+    } else {
+        demand(record.a <= VARIABLE_LIMIT, OUT_OF_RANGE)?;
+    }
+    Ok(record)
+}
+
+/// "a side's nodes are not exactly one term"
+fn one_term(nodes: &[Record], arities: &[u16]) -> Result<Term, u32> {
+    match term_at_front(nodes, arities) {
+        Some((term, [])) => Ok(term),
+        _ => Err(BROKEN_SIDE),
+    }
+}
+
+/// "a variable, or a symbol of the pack with as many terms as its arity"; answers the term and the nodes after it.
+fn term_at_front<'a>(nodes: &'a [Record], arities: &[u16]) -> Option<(Term, &'a [Record])> {
+    let (first, mut rest) = nodes.split_first()?;
+    if first.kind == b'V' {
+        return Some((Term::Variable(first.a), rest));
+    }
+    let mut arguments = Vec::new();
+    for _ in 0..*arities.get(usize::from(first.a))? {
+        let (argument, after) = term_at_front(rest, arities)?;
+        arguments.push(argument);
+        rest = after;
+    }
+    Some((Term::Apply(first.a, arguments), rest))
+}
+
+/// "a variable of the right is not on the left"
+fn variables_within(right: &Term, left: &Term) -> bool {
+    let on_left = variables(left);
+    variables(right).iter().all(|variable| on_left.contains(variable))
+}
+
+/// The variables of a term, in prefix order, with repetitions.
+pub fn variables(term: &Term) -> Vec<u16> {
+    match term {
+        Term::Variable(number) => vec![*number],
+        Term::Apply(_, arguments) => arguments.iter().flat_map(variables).collect(),
+    }
+}
+
+// ---------------------------------------------------------------- pairs
+
+/// The nodes of a side: "places count that side's nodes from 0".
+pub fn subterms(term: &Term) -> Vec<&Term> {
+    let mut all = vec![term];
+    if let Term::Apply(_, arguments) = term {
+        all.extend(arguments.iter().flat_map(subterms));
+    }
+    all
+}
+
+/// The symbol a term applies at its root, none for a variable.
+pub fn root(term: &Term) -> Option<u16> {
+    match term {
+        Term::Variable(_) => None,
+        Term::Apply(symbol, _) => Some(*symbol),
+    }
+}
+
+/// "A symbol is *defined* if it is the root of some left side, else a *constructor*."
+pub fn is_defined(pack: &Pack, symbol: u16) -> bool {
+    pack.rules.iter().any(|rule| root(&rule.left) == Some(symbol))
+}
+
+/// "for each node of a right side that applies a defined symbol"
+fn applies_defined(pack: &Pack, term: &Term) -> bool {
+    root(term).is_some_and(|symbol| is_defined(pack, symbol))
+}
+
+/// "A pair (rule, place) exists for each node of a right side that applies a defined symbol"; rising.
+pub fn pairs(pack: &Pack) -> Vec<Pair> {
+    let mut all = Vec::new();
+    for (rule_number, rule) in pack.rules.iter().enumerate() {
+        for (place, node) in subterms(&rule.right).into_iter().enumerate() {
+            if applies_defined(pack, node) {
+                all.push((rule_number as u16, place as u16));
+            }
+        }
+    }
+    all
+}
+
+/// The node of a right side that a pair names, if it names one of the pack.
+fn pair_node(pack: &Pack, pair: Pair) -> Option<&Term> {
+    let rule = pack.rules.get(usize::from(pair.0))?;
+    let node = subterms(&rule.right).into_iter().nth(usize::from(pair.1))?;
+    applies_defined(pack, node).then_some(node)
+}
+
+/// "Its left is the rule's left side" (the mark of the root is held apart).
+pub fn pair_left(pack: &Pack, pair: Pair) -> &Term {
+    &pack.rules[usize::from(pair.0)].left
+}
+
+/// "and its right the subterm at the place" (the mark of the root is held apart).
+pub fn pair_right(pack: &Pack, pair: Pair) -> &Term {
+    pair_node(pack, pair).expect("only pairs of the pack are asked for")
+}
+
+/// "a P names no pair of the pack"; numbers too great for a file name none either.
+fn named_pair(pack: &Pack, rule: u32, place: u32) -> Result<Pair, u32> {
+    let rule = u16::try_from(rule).map_err(|_| NO_SUCH_PAIR)?;
+    let place = u16::try_from(place).map_err(|_| NO_SUCH_PAIR)?;
+    demand(pair_node(pack, (rule, place)).is_some(), NO_SUCH_PAIR)?;
+    Ok((rule, place))
+}
+
+// ---------------------------------------------------------------- arcs
+
+/// "An arc runs from pair p to pair q if ..", for two pairs of the pack.
+pub fn arc_runs(pack: &Pack, from: Pair, to: Pair) -> bool {
+    meets(pack, pair_right(pack, from), pair_left(pack, to))
+}
+
+/// "the root of p's right is the root of q's left and each argument of the one *may become* the argument at the same position of the other"
+pub fn meets(pack: &Pack, right: &Term, left: &Term) -> bool {
+    match (right, left) {
+        (Term::Apply(f, from), Term::Apply(g, to)) => f == g && all_may_become(pack, from, to),
+        _ => false,
+    }
+}
+
+/// "each argument of u may become that of v"
+fn all_may_become(pack: &Pack, from: &[Term], to: &[Term]) -> bool {
+    from.iter().zip(to).all(|(u, v)| may_become(pack, u, v))
+}
+
+/// "u or v is a variable, or u's root is defined, or both have one root symbol and each argument of u may become that of v"
+fn may_become(pack: &Pack, u: &Term, v: &Term) -> bool {
+    match (u, v) {
+        (Term::Variable(_), _) | (_, Term::Variable(_)) => true,
+        (Term::Apply(f, from), Term::Apply(g, to)) => {
+            is_defined(pack, *f) || (f == g && all_may_become(pack, from, to))
+        }
+    }
+}
+
+// ---------------------------------------------------------------- the certificate
+
+/// "start of certificate | C, end", and C or the end after each component
+fn read_certificate(file: &[u8], pack: &Pack) -> Result<Vec<Component>, u32> {
+    let mut reader = Reader { file, offset: 0 };
+    let mut components = Vec::new();
+    while reader.kind().is_some() {
+        let component = read_component(&mut reader, components.len(), pack)?;
+        components.push(component);
+    }
+    Ok(components)
+}
+
+/// "C | P", "P | P while the count lasts; then C, end, and with a weighting W, M", "W | W, M, C, end", "M | M, C, end"
+fn read_component(reader: &mut Reader, number: usize, pack: &Pack) -> Result<Component, u32> {
+    let (weighted, count) = read_component_head(reader, number)?;
+    let mut component = Component { weighted, ..Component::default() };
+    for _ in 0..count {
+        let pair = read_pair(reader, component.pairs.last().copied(), pack)?;
+        component.pairs.push(pair);
+    }
+    while weighted && reader.kind() == Some(b'W') {
+        let (place, value) = read_weight(reader, b"W", &component.plain, pack)?;
+        component.plain.insert(place, value);
+    }
+    while weighted && reader.kind() == Some(b'M') {
+        let (place, value) = read_weight(reader, b"M", &component.marked, pack)?;
+        component.marked.insert(place, value);
+    }
+    Ok(component)
+}
+
+/// "C component | certificate | its number, 0, 1, 2 .. | weightings, 0 or 1 | pairs, 1 to 2,048"
+fn read_component_head(reader: &mut Reader, number: usize) -> Result<(bool, u16), u32> {
+    let record = reader.take(b"C")?;
+    demand(usize::from(record.a) == number, STRAY_RECORD)?;
+    // "a second pair in a component without a weighting is met at its C"
+    demand(record.b != 0 || record.c <= 1, STRAY_RECORD)?;
+    demand(record.b <= 1, OUT_OF_RANGE)?;
+    demand((1..=PAIR_LIMIT).contains(&record.c), OUT_OF_RANGE)?;
+    Ok((record.b == 1, record.c))
+}
+
+/// "P records of one component rise by (rule, place)", then "a P names no pair of the pack"
+fn read_pair(reader: &mut Reader, last: Option<Pair>, pack: &Pack) -> Result<Pair, u32> {
+    let record = reader.take(b"P")?;
+    let pair = (record.a, record.b);
+    demand(record.c == 0, STRAY_RECORD)?;
+    demand(last.is_none_or(|last| last < pair), STRAY_RECORD)?;
+    demand(pair_node(pack, pair).is_some(), NO_SUCH_PAIR)?;
+    Ok(pair)
+}
+
+/// "W records rise by (a, b), M records likewise", then symbol, place and mark in range
+fn read_weight(reader: &mut Reader, kind: &[u8], before: &Weights, pack: &Pack) -> Result<((u16, u16), u16), u32> {
+    let record = reader.take(kind)?;
+    let place = (record.a, record.b);
+    demand(before.keys().all(|earlier| *earlier < place), STRAY_RECORD)?;
+    let arity = pack.arities.get(usize::from(record.a)).ok_or(OUT_OF_RANGE)?;
+    demand(record.b <= *arity, OUT_OF_RANGE)?;
+    // "or M names a constructor"
+    demand(record.kind == b'W' || is_defined(pack, record.a), OUT_OF_RANGE)?;
+    Ok((place, record.c))
+}
+
+// ---------------------------------------------------------------- what a certificate must show
+
+/// "Every pair of the pack stands exactly once."
+fn judge_pair_count(pack: &Pack, components: &[Component]) -> Result<(), u32> {
+    let named: Vec<Pair> = components.iter().flat_map(|component| component.pairs.iter().copied()).collect();
+    for pair in pairs(pack) {
+        demand(named.iter().filter(|other| **other == pair).count() == 1, PAIR_COUNT)?;
+    }
+    Ok(())
+}
+
+/// "No arc leads from a component to one with a lower number."
+fn judge_back_arcs(pack: &Pack, components: &[Component]) -> Result<(), u32> {
+    for (number, component) in components.iter().enumerate() {
+        for from in &component.pairs {
+            let right = pair_right(pack, *from);
+            for lower in &components[..number] {
+                let back = lower.pairs.iter().any(|to| meets(pack, right, pair_left(pack, *to)));
+                demand(!back, BACK_ARC)?;
+            }
+        }
+    }
+    Ok(())
+}
+
+/// "then each component in turn: 10, or 11 over all rules and its pairs, then 12, then 13"
+fn judge_component(pack: &Pack, component: &Component) -> Result<(), u32> {
+    if component.weighted {
+        judge_weights(pack, component)
+    } else {
+        judge_self_arc(pack, component)
+    }
+}
+
+/// "A component without a weighting has one pair, and no arc from that pair to itself."
+fn judge_self_arc(pack: &Pack, component: &Component) -> Result<(), u32> {
+    let itself = component.pairs.iter().any(|pair| arc_runs(pack, *pair, *pair));
+    demand(!itself, SELF_ARC)
+}
+
+/// "In a component with one, every rule's left is at least its right, and every pair's left is greater than its right."
+fn judge_weights(pack: &Pack, component: &Component) -> Result<(), u32> {
+    let rules = rule_forms(pack, component)?;
+    let pairs = pair_forms(pack, component)?;
+    demand(rules.iter().all(|(left, right)| at_least(left, right)), RULE_RISES)?;
+    demand(pairs.iter().all(|(left, right)| greater(left, right)), PAIR_STAYS)
+}
+
+/// The forms of both sides of all rules under this component's plain weights.
+fn rule_forms(pack: &Pack, component: &Component) -> Result<Vec<(Form, Form)>, u32> {
+    let side = |term: &Term| form(term, &component.plain);
+    pack.rules.iter().map(|rule| Ok((side(&rule.left)?, side(&rule.right)?))).collect()
+}
+
+/// The forms of both sides of this component's pairs, "both with marked roots".
+fn pair_forms(pack: &Pack, component: &Component) -> Result<Vec<(Form, Form)>, u32> {
+    let side = |term: &Term| marked_form(term, component);
+    let both = |pair: &Pair| Ok((side(pair_left(pack, *pair))?, side(pair_right(pack, *pair))?));
+    component.pairs.iter().map(both).collect()
+}
+
+// ---------------------------------------------------------------- forms
+
+/// "The form of a side is worked out from the forms of its arguments"
+pub fn form(term: &Term, plain: &Weights) -> Result<Form, u32> {
+    match term {
+        Term::Variable(number) => Ok(Form { constant: 0, coefficients: BTreeMap::from([(*number, 1)]) }),
+        Term::Apply(symbol, arguments) => applied_form(*symbol, plain, arguments, plain),
+    }
+}
+
+/// The form of a pair's side: its root has the marked weights, all below it the plain ones.
+pub fn marked_form(term: &Term, component: &Component) -> Result<Form, u32> {
+    match term {
+        Term::Variable(_) => form(term, &component.plain),
+        Term::Apply(symbol, arguments) => applied_form(*symbol, &component.marked, arguments, &component.plain),
+    }
+}
+
+/// "A symbol of arity n stands for constant + the sum of weight i × argument i."
+fn applied_form(symbol: u16, weights: &Weights, arguments: &[Term], plain: &Weights) -> Result<Form, u32> {
+    let mut sum = Form { constant: weight(weights, symbol, 0), ..Form::default() };
+    for (argument, place) in arguments.iter().zip(1..) {
+        let argument = form(argument, plain)?;
+        add_times(&mut sum, weight(weights, symbol, place), &argument);
+    }
+    within_limit(sum)
+}
+
+/// "A weight not named is 0; a named value may be 0 too."
+fn weight(weights: &Weights, symbol: u16, place: u16) -> u64 {
+    weights.get(&(symbol, place)).map_or(0, |value| u64::from(*value))
+}
+
+/// sum := sum + factor × argument; the argument is within the limit, so nothing passes 64 bits.
+fn add_times(sum: &mut Form, factor: u64, argument: &Form) {
+    sum.constant += factor * argument.constant;
+    for (variable, coefficient) in &argument.coefficients {
+        *sum.coefficients.entry(*variable).or_insert(0) += factor * coefficient;
+    }
+}
+
+/// "Every constant and coefficient of every node's form is at most 4,294,967,295, nodes under a weight 0 included."
+fn within_limit(form: Form) -> Result<Form, u32> {
+    let fits = form.constant <= FORM_LIMIT && form.coefficients.values().all(|value| *value <= FORM_LIMIT);
+    demand(fits, HEAVY)?;
+    Ok(form)
+}
+
+/// "Over all naturals, one form is at least another exactly if its constant and each coefficient are"
+pub fn at_least(left: &Form, right: &Form) -> bool {
+    let coefficient = |variable: &u16| left.coefficients.get(variable).copied().unwrap_or(0);
+    let each = right.coefficients.iter().all(|(variable, value)| coefficient(variable) >= *value);
+    left.constant >= right.constant && each
+}
+
+/// "it is greater exactly if besides its constant is greater"
+pub fn greater(left: &Form, right: &Form) -> bool {
+    at_least(left, right) && left.constant > right.constant
+}

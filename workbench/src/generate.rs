@@ -1,0 +1,176 @@
+//! Seeded cases: packs, certificates, list rooms and arc questions of all kinds and sizes.
+
+pub mod packs;
+pub mod spoil;
+
+use crate::checker::{judge_pack, pairs, root, Pack, Pair};
+use crate::encode::{certificate_bytes, pack_bytes};
+use crate::random::Random;
+use packs::{Base, Size};
+
+/// Two files, a list's room and some arc questions.
+#[derive(Clone, Debug)]
+pub struct Case {
+    pub pack: Vec<u8>,
+    pub certificate: Vec<u8>,
+    pub room: usize,
+    pub questions: Vec<[u32; 4]>,
+}
+
+/// The case of a seed, always the same.
+pub fn case(seed: u64) -> Case {
+    let mut random = Random::new(seed);
+    // Seeds in a row shall not share their first numbers.
+    random = Random::new(random.bits() ^ seed.rotate_left(32));
+    let random = &mut random;
+    let mut base = some_base(random);
+    // Packs without pairs say little about certificates: they are kept rare.
+    for _ in 0..4 {
+        if base.components.is_empty() && random.chance(90) {
+            base = some_base(random);
+        }
+    }
+    let (pack, certificate) = match random.below(100) {
+        0..=14 => files(&base),
+        15..=66 => {
+            spoil_weights(random, &mut base);
+            files(&base)
+        }
+        67..=89 => spoil_records(random, &mut base),
+        _ => damaged(random, &base),
+    };
+    let room = room(random, &pack);
+    let questions = questions(random, &pack);
+    Case { pack, certificate, room, questions }
+}
+
+/// A base of a size by chance; great ones are rare, as they take long.
+fn some_base(random: &mut Random) -> Base {
+    match random.below(1_000) {
+        0..=249 => packs::guided(random, Size::Tiny),
+        250..=649 => packs::guided(random, Size::Small),
+        650..=879 => packs::guided(random, Size::Typical),
+        880..=891 => packs::guided(random, Size::Large),
+        892..=894 => packs::guided(random, Size::Limit),
+        895 => dense_base(random),
+        896..=930 => packs::edge(random),
+        931..=960 => packs::unguided(random, Size::Tiny),
+        961..=995 => packs::unguided(random, Size::Small),
+        996..=997 => packs::unguided(random, Size::Typical),
+        _ => Base { pack: Pack::default(), components: Vec::new() },
+    }
+}
+
+/// 2,047 pairs and accepted, 2,048 and refused, or some fewer.
+fn dense_base(random: &mut Random) -> Base {
+    let holes = *random.pick(&[1, 1, 0, 2, 100]);
+    packs::dense(random, holes)
+}
+
+fn files(base: &Base) -> (Vec<u8>, Vec<u8>) {
+    (pack_bytes(&base.pack), certificate_bytes(&base.components))
+}
+
+/// Aims at 8 to 13; sometimes at two of them, so that their order matters.
+fn spoil_weights(random: &mut Random, base: &mut Base) {
+    for _ in 0..*random.pick(&[1, 1, 1, 2, 3]) {
+        let aim = *random.pick(&[8, 9, 9, 9, 10, 10, 10, 11, 11, 11, 12, 12, 12, 13, 13]);
+        spoil::spoil_base(random, base, aim);
+    }
+}
+
+/// Aims at 1 to 7; sometimes at two of them.
+fn spoil_records(random: &mut Random, base: &mut Base) -> (Vec<u8>, Vec<u8>) {
+    let aims: Vec<u32> =
+        (0..*random.pick(&[1, 1, 1, 1, 2])).map(|_| *random.pick(&[1, 2, 2, 3, 3, 4, 5, 6, 7])).collect();
+    for aim in &aims {
+        if *aim >= 5 {
+            spoil::spoil_base(random, base, *aim);
+        }
+    }
+    let (mut pack, mut certificate) = files(base);
+    for aim in aims {
+        let on_pack = random.chance(50);
+        match aim {
+            1 if on_pack => spoil::cut(random, &mut pack, true),
+            1 => spoil::cut(random, &mut certificate, false),
+            2 if on_pack => spoil::stray(random, &mut pack),
+            2 => spoil::stray(random, &mut certificate),
+            3 if on_pack => spoil::pack_out_of_range(random, &mut pack),
+            3 => spoil::certificate_out_of_range(random, &mut certificate, &base.pack),
+            4 => spoil::broken(random, &mut pack),
+            _ => {}
+        }
+    }
+    (pack, certificate)
+}
+
+fn damaged(random: &mut Random, base: &Base) -> (Vec<u8>, Vec<u8>) {
+    let (mut pack, mut certificate) = files(base);
+    match random.below(5) {
+        0 | 1 => spoil::damage(random, &mut pack),
+        2 | 3 => spoil::damage(random, &mut certificate),
+        _ => {
+            spoil::damage(random, &mut pack);
+            spoil::damage(random, &mut certificate);
+        }
+    }
+    (pack, certificate)
+}
+
+// ---------------------------------------------------------------- rooms and questions
+
+/// A room that just suffices, just fails, or any.
+fn room(random: &mut Random, pack: &[u8]) -> usize {
+    let count = judge_pack(pack).map_or(random.below(8), |pack| pairs(&pack).len());
+    let exact = count * 8;
+    match random.below(8) {
+        0 | 1 => exact,
+        2 => exact.saturating_sub(1),
+        3 => exact + random.range(1, 7),
+        4 => exact.saturating_sub(8),
+        5 => exact + random.below(100),
+        6 => random.below(exact + 1),
+        _ => *random.pick(&[0, 7, 8, 16_384, 16_383, 20_000]),
+    }
+}
+
+/// Questions about pairs that exist, mostly, and some that do not.
+fn questions(random: &mut Random, pack: &[u8]) -> Vec<[u32; 4]> {
+    let (pack, all) = match judge_pack(pack) {
+        Ok(pack) => {
+            let all = pairs(&pack);
+            (pack, all)
+        }
+        Err(_) => (Pack::default(), Vec::new()),
+    };
+    (0..3).map(|_| question(random, &pack, &all)).collect()
+}
+
+fn question(random: &mut Random, pack: &Pack, all: &[Pair]) -> [u32; 4] {
+    if all.is_empty() || random.chance(10) {
+        return [0; 4].map(|_| *random.pick(&[0, 1, 2, 3, 31, 32, 63, 64, 65_535, 65_536, u32::MAX]));
+    }
+    let from = *random.pick(all);
+    let targets = same_root(random, pack, all, from);
+    let to = *random.pick(&targets);
+    let mut question = [from.0, from.1, to.0, to.1].map(u32::from);
+    if random.chance(12) {
+        let at = random.below(4);
+        // A number whose low 16 bits name a pair is still none.
+        question[at] = question[at].wrapping_add(*random.pick(&[1, 65_536, u32::MAX, 1 << 31]));
+    }
+    question
+}
+
+/// Mostly the pairs whose left has the root of this one's right.
+fn same_root(random: &mut Random, pack: &Pack, all: &[Pair], from: Pair) -> Vec<Pair> {
+    let wanted = root(crate::checker::pair_right(pack, from));
+    let same = |pair: &Pair| root(&pack.rules[usize::from(pair.0)].left) == wanted;
+    let same: Vec<Pair> = all.iter().copied().filter(same).collect();
+    if same.is_empty() || random.chance(20) {
+        all.to_vec()
+    } else {
+        same
+    }
+}

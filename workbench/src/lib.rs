@@ -1,0 +1,14 @@
+//! The workbench: an independent checker, a tuned one, and what is needed to hold implementations against each other.
+
+pub mod checker;
+pub mod encode;
+pub mod generate;
+pub mod graph;
+pub mod implementation;
+#[cfg(feature = "library")]
+pub mod library;
+pub mod random;
+pub mod search;
+pub mod slow;
+pub mod text;
+pub mod tuned;

@@ -1,0 +1,112 @@
+//! The slowest accepted files known, for the benchmark: many arc questions, many weights.
+
+use crate::checker::{pairs, Component, Pack, Pair, Rule, Term};
+use crate::generate::packs::Base;
+
+fn apply(symbol: u16, arguments: Vec<Term>) -> Term {
+    Term::Apply(symbol, arguments)
+}
+
+fn chain(symbol: u16, length: usize, inside: Term) -> Term {
+    (0..length).fold(inside, |term, _| apply(symbol, vec![term]))
+}
+
+fn unweighted(pair: Pair) -> Component {
+    Component { pairs: vec![pair], ..Component::default() }
+}
+
+// ---------------------------------------------------------------- arcs
+
+/// Every pair's right walks `depth` nodes down every left of its root before it fails; no arc at all.
+/// Symbols: 0 a, 1 b, 2 s, 3 f, 4 a constructor that holds the calls.
+pub fn arcs(depth: usize) -> Base {
+    arcs_of(depth, (31 / (depth + 1)).clamp(1, 8))
+}
+
+/// The same with short walks and so many pairs a rule.
+pub fn few_arcs(calls: usize) -> Base {
+    arcs_of(2, calls.clamp(1, 8))
+}
+
+fn arcs_of(depth: usize, calls: usize) -> Base {
+    let left = apply(3, vec![chain(2, depth - 1, apply(1, vec![]))]);
+    let call = apply(3, vec![chain(2, depth - 1, apply(0, vec![]))]);
+    let right = apply(4, vec![call; calls]);
+    let rules = vec![Rule { left, right }; 64];
+    let pack = Pack { arities: vec![0, 0, 1, 1, calls as u16], rules };
+    // The first pairs of all rules come first, so that each later one asks for all rules.
+    let places = (0..calls).map(|call| (1 + call * (depth + 1)) as u16);
+    let components = places.flat_map(|place| (0..64).map(move |rule| unweighted((rule, place)))).collect();
+    Base { pack, components }
+}
+
+// ---------------------------------------------------------------- weights
+
+/// 64 rules with 32 nodes a side in long chains; pairs never meet a left, so components stand in any order.
+/// Symbols: 0 s, 1 f, 2 d.
+pub fn chains(components: usize, own_weights: bool) -> Base {
+    let calls = components.div_ceil(64).clamp(1, 15);
+    let left = apply(1, vec![chain(0, 30, Term::Variable(0))]);
+    let shells = 31 - 2 * calls;
+    let right = chain(0, shells, calls_over(calls, 2, Term::Variable(0)));
+    let weights = |index: usize| {
+        let constant = if own_weights { 1 + (index % 2) as u16 } else { 1 };
+        component(&[(0, 0, constant), (0, 1, 1), (1, 1, 1), (2, 1, 1)])
+    };
+    weighted(vec![1, 1, 1], Rule { left, right }, components, weights)
+}
+
+/// Sixteen variables on the left: forms are as wide as can be.
+/// Symbols: 0 c with two arguments, 1 f, 2 d.
+pub fn wide(components: usize) -> Base {
+    let calls = components.div_ceil(64).clamp(1, 12);
+    let left = apply(1, vec![sum_of(16, 0)]);
+    let right = calls_over(calls, 2, sum_of((33 - 2 * calls) / 2, 0));
+    let weights = |index: usize| {
+        let constant = 1 + (index % 2) as u16;
+        component(&[(0, 0, constant), (0, 1, 1), (0, 2, 1), (1, 1, 1), (2, 1, 1)])
+    };
+    weighted(vec![2, 1, 1], Rule { left, right }, components, weights)
+}
+
+/// Coefficients of 4,294,836,225 side by side: no bound over all of them settles the limit.
+/// Symbols: 0 c with two arguments, 1 f, 2 d, 3 s.
+pub fn brink(components: usize) -> Base {
+    let calls = components.div_ceil(64).clamp(1, 12);
+    let left = apply(1, vec![sum_of(8, 2)]);
+    let right = calls_over(calls, 2, sum_of((33 - 2 * calls) / 4, 2));
+    let weights = |index: usize| {
+        let constant = 1 + (index % 2) as u16;
+        component(&[(0, 0, constant), (0, 1, 1), (0, 2, 1), (1, 1, 1), (2, 1, 1), (3, 1, 65_535)])
+    };
+    weighted(vec![2, 1, 1, 1], Rule { left, right }, components, weights)
+}
+
+/// f(d(f(d(..)))): under each call a constructor that no left has there.
+fn calls_over(calls: usize, shell: u16, inside: Term) -> Term {
+    (0..calls).fold(inside, |term, _| apply(1, vec![apply(shell, vec![term])]))
+}
+
+/// c(c(c(x0, x1), x2), ..) with so many variables, each under `deep` symbols s.
+fn sum_of(variables: usize, deep: usize) -> Term {
+    let leaf = |variable: usize| chain(3, deep, Term::Variable(variable as u16));
+    (1..variables).fold(leaf(0), |sum, variable| apply(0, vec![sum, leaf(variable)]))
+}
+
+/// Plain weights as told, and the marked f its argument.
+fn component(plain: &[(u16, u16, u16)]) -> Component {
+    let plain = plain.iter().map(|(symbol, place, value)| ((*symbol, *place), *value)).collect();
+    Component { weighted: true, pairs: Vec::new(), plain, marked: [((1, 1), 1)].into() }
+}
+
+/// 64 times the rule, its pairs dealt out to that many components as evenly as may be.
+fn weighted(arities: Vec<u16>, rule: Rule, count: usize, weights: impl Fn(usize) -> Component) -> Base {
+    let pack = Pack { arities, rules: vec![rule; 64] };
+    let pairs = pairs(&pack);
+    let mut components: Vec<Component> = (0..count.min(pairs.len())).map(weights).collect();
+    let shares = components.len();
+    for (index, pair) in pairs.iter().enumerate() {
+        components[index * shares / pairs.len()].pairs.push(*pair);
+    }
+    Base { pack, components }
+}
