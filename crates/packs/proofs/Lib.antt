@@ -5,3 +5,15 @@ pub mod Places
 pub mod ReadBack
 pub mod OnlyEncodings
 pub mod Refusals
+pub mod Tests
+pub mod Seen
+pub mod Wanted
+pub mod NodeSteps
+pub mod SymbolSteps
+pub mod SidesInBytes
+pub mod Phases
+pub mod KeptNodes
+pub mod OneRule
+pub mod RulesSoFar
+pub mod Marks
+pub mod WholePack

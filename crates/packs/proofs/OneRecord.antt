@@ -103,10 +103,10 @@ reads-passes x _ _ (reads-last n u h fits due m) = step-is-node n x h ∙ node-e
 abbrev record-of : (kind one a b c : ℕ) → Record
 record-of k one a b c = record { kind = k; one = one; a = a; b = b; c = c }
 
-abbrev Made : Option Tree → Option Tree → Rule → Type 0
+abbrev pub Made : Option Tree → Option Tree → Rule → Type 0
 Made l r u = (l ≡ some (u .left)) × (r ≡ some (u .right)) × (is-app (u .left) ≡ true) × (all-in (variables (u .right)) (variables (u .left)) ≡ true)
 
-rule-of-passed : (l r : Option Tree) (u : Rule) → rule-of l r ≡ passed u → Made l r u
+pub rule-of-passed : (l r : Option Tree) (u : Rule) → rule-of l r ≡ passed u → Made l r u
 unfolding rule-of
 rule-of-passed none r u e = not-passed e
 rule-of-passed (some l) none u e = not-passed e

@@ -2,3 +2,6 @@
 pub mod Listing
 pub mod Arcs
 pub mod Answers
+-- how the code goes about it
+pub mod Says
+pub mod Walking

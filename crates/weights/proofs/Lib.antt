@@ -11,3 +11,8 @@ pub mod Steps
 pub mod Falls
 pub mod Descent
 pub mod Weighed
+-- how the code works them out
+pub mod Sums
+pub mod Working
+pub mod Arguments
+pub mod Weighing

@@ -27,7 +27,7 @@ unfolding any-above
 none-above [] h = refl
 none-above (x ∷ xs) h = or-both-false (le-ltb limit x (h 0 (omega arith))) (none-above xs (λ v k. h (suc v) (omega arith)))
 
-within : (x : Polynomial) → over-limit x ≡ false → Within x
+pub within : (x : Polynomial) → over-limit x ≡ false → Within x
 unfolding over-limit
 within x h =
     record {
@@ -53,7 +53,7 @@ set-above (x ∷ xs) (suc v) h =
     or-both-false first (set-above xs v (search ors))
 
 -- a variable's coefficients are 0 and 1
-variable-within : (v : ℕ) → over-limit (polynomial 0 (set no-coefficients v 1)) ≡ false
+pub variable-within : (v : ℕ) → over-limit (polynomial 0 (set no-coefficients v 1)) ≡ false
 unfolding over-limit any-above limit
 variable-within v = set-above no-coefficients v refl
 

@@ -18,7 +18,7 @@ use Rattle.weights.specs.Values.{Valuation, weighed, term-values, first-
 abbrev Sixteen : Polynomial → Type 0
 Sixteen x = length (x .coefficients) ≡ 16
 
-scaled-length : (k : ℕ) (xs ys : List ℕ) → length xs ≡ length ys → length (scaled-sum k xs ys) ≡ length ys
+pub scaled-length : (k : ℕ) (xs ys : List ℕ) → length xs ≡ length ys → length (scaled-sum k xs ys) ≡ length ys
 unfolding scaled-sum
 scaled-length k [] ys e = refl
 scaled-length k (x ∷ xs) [] e = refl

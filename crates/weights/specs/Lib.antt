@@ -3,3 +3,5 @@ pub mod Polynomials
 pub mod Values
 pub mod Limit
 pub mod Judging
+-- how the code works them out
+pub mod Working

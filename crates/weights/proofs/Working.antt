@@ -1,0 +1,129 @@
+-- The code's polynomial of a rooted term: a plain side's if the weights are the same at the root and below it, a pair's side's
+-- if those at the root are of the tuple symbols. So the verdicts on a rule and on a pair are one on two rooted sides.
+use mathlib.Core.Path.{_≡_, refl, sym, _∙_}
+use mathlib.Core.Bool.{Bool, true, false, _||_, not, Bool·not-not, true≢false, false≢true}
+use mathlib.Core.Logic.{_↔_}
+use mathlib.Core.List.{List, _∷_}
+use Prim.Native.Nat.{ℕ}
+use native.Mathlib.Omega.{arith}
+use borrow.Author.Tests.{not-true, not-false}
+use Rattle.rewriting.specs.Terms.{Tree, var, app, nil, cons, Rule, is-list}
+use Rattle.rewriting.specs.Pairs.{arguments}
+use Rattle.rewriting.specs.Systems.{is-app}
+use Rattle.rewriting.proofs.Basics.{or-right}
+use Rattle.weights.specs.declared.Formed.{Formed}
+use Rattle.weights.specs.declared.Verdict.{Verdict}
+use Rattle.weights.specs.declared.Verdict.the-variants.{Over, Fails, Holds}
+use Rattle.weights.specs.Polynomials.{Weight, Weighting, Polynomial, polynomials, first, polynomial-of, marked-polynomial, at-least, greater}
+use Rattle.weights.specs.Limit.{over, marked-over}
+use Rattle.weights.specs.Judging.{Call, rule-over, rule-rises, call-over, call-falls}
+use Rattle.weights.specs.Working.{rooted, rooted-over, Formed-as, verdict}
+
+-- A PLAIN SIDE
+
+module _ (ws : List Weight) where
+  pub rooted-plain : (t : Tree) → is-list t ≡ false → rooted ws ws t ≡ polynomial-of ws t
+  unfolding rooted polynomials polynomial-of first is-list
+  rooted-plain (var v) h = refl
+  rooted-plain (app f ts) h = refl
+  rooted-plain nil h = absurd (true≢false h)
+  rooted-plain (cons t ts) h = absurd (true≢false h)
+
+  pub rooted-over-plain : (t : Tree) → is-list t ≡ false → rooted-over ws ws t ≡ over ws t
+  unfolding rooted-over over is-list
+  rooted-over-plain (var v) h = refl
+  rooted-over-plain (app f ts) h = refl
+  rooted-over-plain nil h = absurd (true≢false h)
+  rooted-over-plain (cons t ts) h = absurd (true≢false h)
+
+  -- the polynomials of an argument list, one term at a time
+  pub polynomials-cons : (t ts : Tree) → is-list t ≡ false → polynomials ws (cons t ts) ≡ polynomial-of ws t ∷ polynomials ws ts
+  unfolding polynomials polynomial-of first is-list
+  polynomials-cons (var v) ts h = refl
+  polynomials-cons (app f us) ts h = refl
+  polynomials-cons nil ts h = absurd (true≢false h)
+  polynomials-cons (cons t us) ts h = absurd (true≢false h)
+
+-- A PAIR'S SIDE
+
+module _ (w : Weighting) where
+  pub rooted-marked : (t : Tree) → is-app t ≡ true → rooted (w .marked) (w .weights) t ≡ marked-polynomial w t
+  unfolding rooted marked-polynomial is-app
+  rooted-marked (var v) h = absurd (false≢true h)
+  rooted-marked (app f ts) h = refl
+  rooted-marked nil h = absurd (false≢true h)
+  rooted-marked (cons t ts) h = absurd (false≢true h)
+
+  pub rooted-over-marked : (t : Tree) → is-app t ≡ true → rooted-over (w .marked) (w .weights) t ≡ marked-over w t
+  unfolding rooted-over marked-over marked-polynomial arguments is-app
+  rooted-over-marked (var v) h = absurd (false≢true h)
+  rooted-over-marked (app f ts) h = refl
+  rooted-over-marked nil h = absurd (false≢true h)
+  rooted-over-marked (cons t ts) h = absurd (false≢true h)
+
+-- THE VERDICT ON TWO SIDES
+
+-- a side passes the limit, or the test of their polynomials tells
+unfoldable pub sides-verdict : (root ws : List Weight) → (Polynomial → Polynomial → Bool) → (left right : Tree) → Verdict
+sides-verdict root ws test t u = verdict (rooted-over root ws t || rooted-over root ws u) (test (rooted root ws t) (rooted root ws u))
+
+module _ (root ws : List Weight) (test : Polynomial → Polynomial → Bool) (t u : Tree) where
+  pub left-passes : (l : Formed) → Formed-as root ws t l → l .within ≡ false → Over ≡ sides-verdict root ws test t u
+  unfolding sides-verdict verdict
+  left-passes l a h = let o : rooted-over root ws t ≡ true = not-false _ (sym (a .judged) ∙ h) in rw o
+
+  pub right-passes : (r : Formed) → Formed-as root ws u r → r .within ≡ false → Over ≡ sides-verdict root ws test t u
+  unfolding sides-verdict verdict
+  right-passes r b h =
+      let o : rooted-over root ws u ≡ true = not-false _ (sym (b .judged) ∙ h) in
+      rw (or-right (rooted-over root ws t) o)
+
+  pub neither-passes :
+      (l r : Formed) → Formed-as root ws t l → Formed-as root ws u r → l .within ≡ true → r .within ≡ true →
+      (b : Bool) → test (l .polynomial) (r .polynomial) ≡ b → verdict false b ≡ sides-verdict root ws test t u
+  unfolding sides-verdict
+  neither-passes l r a b h k c e =
+      let o : rooted-over root ws t ≡ false = not-true _ (sym (a .judged) ∙ h) in
+      let p : rooted-over root ws u ≡ false = not-true _ (sym (b .judged) ∙ k) in
+      rw (o, p, ← a .formed h, ← b .formed k, e)
+
+-- on a rule
+pub rule-verdict :
+    (w : Weighting) (r : Rule) → is-list (r .left) ≡ false → is-list (r .right) ≡ false →
+    sides-verdict (w .weights) (w .weights) at-least (r .left) (r .right) ≡ verdict (rule-over w r) (not (rule-rises w r))
+unfolding sides-verdict rule-over rule-rises
+rule-verdict w r h k =
+    rw
+    (rooted-over-plain _ (r .left) h, rooted-over-plain _ (r .right) k, rooted-plain _ (r .left) h, rooted-plain _ (r .right) k, Bool·not-not)
+
+-- on a pair
+pub call-verdict :
+    (w : Weighting) (c : Call) → is-app (c .left) ≡ true → is-app (c .right) ≡ true →
+    sides-verdict (w .marked) (w .weights) greater (c .left) (c .right) ≡ verdict (call-over w c) (call-falls w c)
+unfolding sides-verdict call-over call-falls
+call-verdict w c h k =
+    rw
+    (rooted-over-marked w (c .left) h, rooted-over-marked w (c .right) k, rooted-marked w (c .left) h, rooted-marked w (c .right) k)
+
+-- WHAT A VERDICT TELLS
+
+two-verdicts : {C : Type 0} {x y : Verdict} → x ≡ y → (x ≡ y → _≡_ {A = ℕ} 0 1) → C
+two-verdicts e differ = let z = differ e in absurd (omega arith)
+
+pub verdict-over : (passes holds : Bool) → (verdict passes holds ≡ Over) ↔ (passes ≡ true)
+unfolding verdict
+verdict-over true holds = (λ e. refl, λ e. refl)
+verdict-over false true = (λ e. two-verdicts e (λ e. cc), λ e. absurd (false≢true e))
+verdict-over false false = (λ e. two-verdicts e (λ e. cc), λ e. absurd (false≢true e))
+
+pub verdict-fails : (passes holds : Bool) → (verdict passes holds ≡ Fails) ↔ ((passes ≡ false) × (holds ≡ false))
+unfolding verdict
+verdict-fails true holds = (λ e. two-verdicts e (λ e. cc), λ e. absurd (true≢false (e .0)))
+verdict-fails false true = (λ e. two-verdicts e (λ e. cc), λ e. absurd (true≢false (e .1)))
+verdict-fails false false = (λ e. (refl, refl), λ e. refl)
+
+pub verdict-holds : (passes holds : Bool) → (verdict passes holds ≡ Holds) ↔ ((passes ≡ false) × (holds ≡ true))
+unfolding verdict
+verdict-holds true holds = (λ e. two-verdicts e (λ e. cc), λ e. absurd (true≢false (e .0)))
+verdict-holds false true = (λ e. (refl, refl), λ e. refl)
+verdict-holds false false = (λ e. two-verdicts e (λ e. cc), λ e. absurd (false≢true (e .1)))
