@@ -23,7 +23,8 @@ use Rattle.packs.specs.Encoding.{pack-bytes, Good-pack}
 use Rattle.pairs.specs.Listing.{pairs, count-pair}
 use Rattle.pairs.specs.Arcs.{may-reach, arc, Reaches}
 use Rattle.pairs.specs.Answers.{listing, arc-question}
-use Rattle.weights.specs.Polynomials.{Weight, Weighting, weight, Polynomial, polynomial-of, marked-polynomial, at-least, greater}
+use Rattle.weights.specs.declared.Polynomial.{Polynomial}
+use Rattle.weights.specs.Polynomials.{Weight, Weighting, weight, polynomial-of, marked-polynomial, at-least, greater}
 use Rattle.weights.specs.Values.{Valuation, term-values, marked-value, value-of}
 use Rattle.weights.specs.Limit.{over, marked-over, Nodes-within, Side-within}
 use Rattle.certificates.specs.Components.{Component}
