@@ -49,14 +49,14 @@ pub data Reads (p : System) : Reading → Record → Reading → Type 0 where
 
 -- SO THE STEP PASSES
 
-counts-alone : (b n : ℕ) → Counted b n → eqb b 0 && ltb 1 n ≡ false
-counts-alone zero n k = let e = k .alone refl in le-ltb 1 n (omega arith)
-counts-alone (suc b) n k = rw (eqb·suc-zero b)
+pub counts-alone : (b n : ℕ) → (b ≡ 0 → n ≤ 1) → eqb b 0 && ltb 1 n ≡ false
+counts-alone zero n h = le-ltb 1 n (h refl)
+counts-alone (suc b) n h = rw (eqb·suc-zero b)
 
 pub reads-passes : (p : System) (x y : Reading) (r : Record) → Reads p x r y → cert-step p r x ≡ passed y
 unfolding cert-step component-read inside-read pair-read weight-read marked-read weight-of index pair-record
 reads-passes p _ _ _ (reads-component x b n h k) =
-    rw (h, eq-eqb _ _ refl, counts-alone b n k, le-leb _ _ (k .weightings-few), le-leb _ _ (k .pairs-some), le-leb _ _ (k .pairs-few))
+    rw (h, eq-eqb _ _ refl, counts-alone b n (λ e. let one = k .alone e in omega arith), le-leb _ _ (k .weightings-few), le-leb _ _ (k .pairs-some), le-leb _ _ (k .pairs-few))
 reads-passes p _ _ _ (reads-pair last cs c due q h below is) = rw (h, below, is)
 reads-passes p _ _ _ (reads-weight last cs c due w h below place) = rw (h, below, place)
 reads-passes p _ _ _ (reads-marked last cs c due w h below place def) = rw (h, below, place, def)
@@ -133,7 +133,7 @@ module _ (p : System) (y : Reading) (one a b c : ℕ) where
         (reads-marked last cs d due this-weight h (and-right (eqb one 0) _ (zeros .0)) (and-left _ _ (place .0)) (and-right (is-place p a b) _ (place .0)))
 
 -- no other kind may stand in a certificate
-foreign : {C : Type 0} (row next due : ℕ) (weighted : Bool) → 5 ≤ row → row ≤ 10 → next < 5 → may-follow row next due weighted ≡ true → C
+pub foreign : {C : Type 0} (row next due : ℕ) (weighted : Bool) → 5 ≤ row → row ≤ 10 → next < 5 → may-follow row next due weighted ≡ true → C
 foreign row next due weighted h k l e = absurd (may-follow-entry row next due weighted e (certificate-apart row next h k l))
 
 of-kind : (p : System) (last : ℕ) (cs : List Component) (begun : Option Component) (due : ℕ) (y : Reading) (k one a b c : ℕ) → Kind k → 5 ≤ last → last ≤ 10

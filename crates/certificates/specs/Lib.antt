@@ -2,3 +2,5 @@
 pub mod Components
 pub mod Reading
 pub mod Encoding
+-- how the code reads it
+pub mod Working
