@@ -42,7 +42,7 @@ good-fit p cs good i h = record { few = good i h .weightings-few; alone = good i
 
 -- ONE COMPONENT, under document 01's judge
 
-only-arc : (p : System) (d : Pair) (qs : List Pair) → length qs ≡ 1 → arcs-among (plain p) qs qs ≡ arc p (getD qs 0 d) (getD qs 0 d)
+pub only-arc : (p : System) (d : Pair) (qs : List Pair) → length qs ≡ 1 → arcs-among (plain p) qs qs ≡ arc p (getD qs 0 d) (getD qs 0 d)
 unfolding arcs-among any plain
 only-arc p d [] h = absurd (omega arith)
 only-arc p d (q ∷ []) h = or-false _ ∙ or-false _

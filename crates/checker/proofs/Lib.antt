@@ -11,3 +11,12 @@ pub mod Judged
 -- document 01's judge is such a one
 pub mod Plain
 pub mod Checking
+-- 8 and 9 by the components that the pairs' slots name
+pub mod Owning
+pub mod OwnersMean
+pub mod FromRead
+pub mod FromStore
+pub mod Positions
+pub mod Tables
+pub mod Verdicts
+pub mod Answering

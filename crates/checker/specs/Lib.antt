@@ -2,3 +2,5 @@
 pub mod Judge
 pub mod Check
 pub mod Shown
+-- how the code judges
+pub mod Working

@@ -1,9 +1,9 @@
 -- Nodes kept as bytes: one list after another, and what stays kept where bytes further on are written.
-use mathlib.Core.Path.{_≡_, refl, sym, ap, _∙_}
-use mathlib.Core.List.{List, [], _∷_, _++_}
-use Prim.Native.Nat.{ℕ, _+_, _-_, _≤_, _<_}
+use mathlib.Core.Path.{_≡_, sym, ap, _∙_}
+use mathlib.Core.List.{List, _++_}
+use Prim.Native.Nat.{ℕ, _+_, _-_, _≤_}
 use native.Mathlib.Omega.{arith}
-use lib.ListN.{length, take, drop, length-append, length-take, length-drop, length-map}
+use lib.ListN.{length, take, drop, length-append, length-drop, length-map}
 use lib.Seq.{take-take, drop-drop, take-add, take-at, drop-at, length-take-le}
 use Rattle.terms.specs.Sides.{Node}
 use Rattle.terms.specs.Kept.{code, codes, Kept, part}
@@ -26,15 +26,15 @@ module _ (z : List ℕ) (a : ℕ) (ns ms : List Node) (k : Kept z a (ns ++ ms)) 
   long : length (take (length ns) (drop a z)) ≡ length ns
   long = length-take-le (length ns) (drop a z) (simp length-drop (omega (arith, length-append ns ms, k .within)))
 
-  pub kept-first : Kept z a ns
-  kept-first =
+  pub kept-left : Kept z a ns
+  kept-left =
       record {
         within = omega (arith, length-append ns ms, k .within);
         are = sym (take-at (take (length ns) (drop a z)) _ (length ns) long) ∙ ap (take (length ns)) both ∙ take-at (codes ns) (codes ms) (length ns) (length-codes ns);
       }
 
-  pub kept-others : Kept z (a + length ns) ms
-  kept-others =
+  pub kept-right : Kept z (a + length ns) ms
+  kept-right =
       record {
         within = omega (arith, length-append ns ms, k .within);
         are =

@@ -1,22 +1,22 @@
 -- Marks of the symbols that begin left sides: a mark more for a rule more, and the marks of a pack's rules are those of its
 -- defined symbols.
-use mathlib.Core.Path.{_≡_, refl, sym, ap, _∙_}
-use mathlib.Core.Bool.{Bool, true, false, _||_, cond, false≢true}
+use mathlib.Core.Path.{_≡_, sym, _∙_}
+use mathlib.Core.Bool.{true, cond, false≢true}
 use mathlib.Core.Logic.{⊎-elim}
-use mathlib.Core.List.{List, [], _∷_}
+use mathlib.Core.List.{List}
 use Prim.Native.Nat.{ℕ, zero, suc, _+_, _*_, _≤_, _<_}
 use native.Mathlib.Omega.{arith}
 use native.Mathlib.Numerals.{add-one}
 use lib.Dec.{eqb}
 use lib.ListN.{length, getD, set, replicate, getD-replicate}
 use lib.Seq.{getD-set-same, getD-set-other}
-use borrow.Author.Tests.{eqb-true, eqb-false, eq-eqb, ne-eqb}
+use borrow.Author.Tests.{eqb-true, eqb-false, ne-eqb}
 use Rattle.rewriting.specs.Terms.{Tree, var, app, nil, cons, System, rule}
 use Rattle.rewriting.specs.Systems.{is-app}
 use Rattle.rewriting.specs.Pairs.{has-root, defined}
 use Rattle.rewriting.proofs.Basics.{by-test, same-test, or-cases, or-left, or-right}
 use Rattle.rewriting.proofs.Defined.{defined-exactly}
-use Rattle.terms.specs.Sides.{Node, symbol, flat}
+use Rattle.terms.specs.Sides.{symbol, flat}
 use Rattle.terms.specs.Kept.{code, Kept}
 use Rattle.terms.proofs.Rests.{kept-first}
 use Rattle.packs.specs.Stored.{Rule-at, begins-left, Marked}

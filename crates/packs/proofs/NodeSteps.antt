@@ -1,17 +1,16 @@
 -- A rule's nodes, one record at a time: what a node record comes to, and the steps after it.
-use mathlib.Core.Path.{_≡_, refl, sym, ap, _∙_, subst}
+use mathlib.Core.Path.{_≡_, refl, sym, ap, subst}
 use mathlib.Core.Bool.{Bool, true, false, cond}
-use mathlib.Core.List.{List, [], _∷_, _++_, map}
-use Prim.Native.Nat.{ℕ, zero, suc, _+_, _-_, _≤_, _<_}
+use mathlib.Core.List.{List, [], _∷_, _++_}
+use Prim.Native.Nat.{ℕ, zero, suc, _≤_, _<_}
 use native.Mathlib.Omega.{arith}
 use lib.Dec.{ltb, eqb}
-use lib.ListN.{length}
 use lib.Seq.{append-snoc}
 use borrow.Author.Tests.{ltb-true}
 use Rattle.records.specs.declared.Record.{Record}
 use Rattle.records.specs.Outcomes.{Outcome, refused, passed, after}
 use Rattle.records.specs.Order.{V-variable, index, may-follow}
-use Rattle.records.proofs.Outcomes.{not-passed, passed-same, test-held, after-same, after-after}
+use Rattle.records.proofs.Outcomes.{not-passed, passed-same, test-held}
 use Rattle.terms.specs.Sides.{Node, variable, symbol}
 use Rattle.terms.specs.Kept.{code, codes}
 use Rattle.packs.specs.Reading.{variable-count, node-zeros, node-of}

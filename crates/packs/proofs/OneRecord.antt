@@ -12,13 +12,13 @@ use Rattle.rewriting.specs.Terms.{Tree, Rule}
 use Rattle.rewriting.specs.Systems.{is-app, variables, all-in}
 use Rattle.rewriting.proofs.Basics.{by-test, and-left, and-right}
 use Rattle.records.specs.declared.Record.{Record}
-use Rattle.records.specs.Outcomes.{passed}
+use Rattle.records.specs.Outcomes.{refused, passed}
 use Rattle.records.specs.Records.{a-record}
 use Rattle.records.specs.Order.{S-symbol, R-rule, F-application, V-variable, index, may-follow}
 use Rattle.records.proofs.Outcomes.{not-passed, passed-same, test-held, after-passed}
 use Rattle.records.proofs.Table.{Kind, is-S, is-R, is-F, is-V, is-C, is-P, is-W, is-M, is-other, kind-of, pack-apart, may-follow-entry}
 use Rattle.terms.specs.Sides.{Node, variable, symbol, side}
-use Rattle.packs.specs.Reading.{Reading, between-rules, most-symbols, most-arity, most-rules, variable-count, symbol-read, side-count, rule-read, node-zeros, node-in-range, node-of, rule-of, rule-ended, node-read, pack-step}
+use Rattle.packs.specs.Reading.{Reading, between-rules, most-symbols, most-arity, most-rules, variable-count, symbol-read, side-count, rule-read, node-zeros, node-in-range, node-of, rule-of, rule-ended, node-read, pack-step, pack-from}
 use Rattle.packs.specs.Encoding.{node-record}
 use Rattle.terms.proofs.Parsing.{Node-fits}
 
@@ -189,7 +189,7 @@ module _ (x y : Reading) (one a b c : ℕ) where
       rw (z .0, z .1, z .2) (node-passes (variable a) x y h (ltb-true _ _ (range .0)) (rw (z .0, z .1, z .2) at e))
 
 -- no other kind may stand in a pack
-foreign : {C : Type 0} (row next due : ℕ) → row < 5 → 5 ≤ next → next ≤ 10 → may-follow row next due false ≡ true → C
+pub foreign : {C : Type 0} (row next due : ℕ) → row < 5 → 5 ≤ next → next ≤ 10 → may-follow row next due false ≡ true → C
 foreign row next due h k l e = absurd (may-follow-entry row next due false e (pack-apart row next h k l))
 
 of-kind : (x y : Reading) (k one a b c : ℕ) → Kind k → x .last < 5 → pack-step (record-of k one a b c) x ≡ passed y
@@ -209,3 +209,8 @@ of-kind x y _ one a b c (is-other k i) row e =
 
 pub passes-reads : (x y : Reading) (r : Record) → x .last < 5 → pack-step r x ≡ passed y → Reads x r y
 passes-reads x y r row e = of-kind x y (r .kind) (r .one) (r .a) (r .b) (r .c) (kind-of (r .kind)) row e
+
+-- A RECORD THAT MAY NOT STAND HERE, whatever follows it
+pub stray-record : (x : Reading) (r : Record) (rs : List Record) → may-follow (x .last) (index (r .kind)) (x .due) false ≡ false → pack-from (r ∷ rs) x ≡ refused 2
+unfolding pack-from pack-step
+stray-record x r rs e = rw e

@@ -1,7 +1,7 @@
 -- A rule as `read_rule` reads it: what its answer and the bytes that it leaves tell of the rule that the nodes make.
-use mathlib.Core.Path.{_≡_, refl, sym, ap, _∙_, subst}
-use mathlib.Core.List.{List, [], _∷_, _++_}
-use Prim.Native.Nat.{ℕ, _+_, _≤_, _<_}
+use mathlib.Core.Path.{_≡_, refl, sym, ap, _∙_}
+use mathlib.Core.List.{List, [], _++_}
+use Prim.Native.Nat.{ℕ, _+_, _≤_}
 use native.Mathlib.Omega.{arith}
 use lib.ListN.{length, take, drop, length-drop, take-append-drop}
 use lib.Seq.{length-take-le}
@@ -21,7 +21,7 @@ use Rattle.packs.proofs.OneRecord.{node-row, rule-of-passed}
 use Rattle.packs.proofs.Places.{at-rule}
 use Rattle.packs.proofs.NodeSteps.{Small}
 use Rattle.packs.proofs.SidesInBytes.{judged-as-terms}
-use Rattle.packs.proofs.Phases.{nodes-told, row-told}
+use Rattle.packs.proofs.RulesPhase.{nodes-told, row-told}
 
 -- a refusal is its number, of whatever the reading was
 pub as-refused : {A : Type 0} (B : Type 0) {n m : ℕ} → _≡_ {A = Outcome A} (refused n) (refused m) → _≡_ {A = Outcome B} (refused n) (refused m)

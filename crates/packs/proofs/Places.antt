@@ -1,15 +1,18 @@
 -- Where in a pack a reading stands, between rules or inside one, and what the table lets come there.
-use mathlib.Core.Path.{_≡_, refl}
+use mathlib.Core.Path.{_≡_, refl, subst}
 use mathlib.Core.Bool.{true, false, false≢true}
 use mathlib.Core.List.{List, []}
+use mathlib.Core.Logic.{_⊎_, inl, inr}
 use Prim.Native.Nat.{ℕ, _≤_, _<_}
 use native.Mathlib.Omega.{arith}
+use lib.Dec.{eqb}
 use lib.ListN.{length}
 use borrow.Author.Tests.{le-leb, eqb-true}
 use Rattle.rewriting.specs.Terms.{Rule}
-use Rattle.records.specs.Order.{order, lets, may-follow}
+use Rattle.records.specs.Order.{S-symbol, R-rule, index, order, lets, may-follow}
+use Rattle.records.proofs.Table.{Kind, is-S, is-R, is-F, is-V, is-C, is-P, is-W, is-M, is-other}
 use Rattle.terms.specs.Sides.{Node, variable, symbol}
-use Rattle.packs.proofs.OneRecord.{node-row}
+use Rattle.packs.proofs.OneRecord.{node-row, foreign}
 
 -- between rules, by the last record's row: at the start, among the symbols, or after a rule's last node
 pub data Between : (last : ℕ) → (arities : List ℕ) → (rules : List Rule) → Type 0 where
@@ -106,3 +109,42 @@ unfolding may-follow order lets
 inside-no-end at-rule due l h = false≢true h
 inside-no-end at-symbol-node due l h = let z = eqb-true due 0 h in omega arith
 inside-no-end at-variable-node due l h = let z = eqb-true due 0 h in omega arith
+
+-- WHICH KIND STANDS
+
+-- inside a rule: a node
+pub record Node-kind (kind : ℕ) : Type 0 where
+  pub no-symbol : eqb kind S-symbol ≡ false
+  pub no-rule : eqb kind R-rule ≡ false
+  pub node : Node
+  pub row : index kind ≡ node-row node
+
+pub inside-kind : {k kind : ℕ} → Inside k → Kind kind → (due : ℕ) → 1 ≤ due → may-follow k (index kind) due false ≡ true → Node-kind kind
+unfolding index
+inside-kind i is-S due h e = absurd (inside-no-symbol i due e)
+inside-kind i is-R due h e = absurd (inside-no-rule i due h e)
+inside-kind i is-F due h e = record { no-symbol = refl; no-rule = refl; node = symbol 0; row = refl }
+inside-kind i is-V due h e = record { no-symbol = refl; no-rule = refl; node = variable 0; row = refl }
+inside-kind i is-C due h e = foreign _ 6 due (inside-row i) (omega arith) (omega arith) e
+inside-kind i is-P due h e = foreign _ 7 due (inside-row i) (omega arith) (omega arith) e
+inside-kind i is-W due h e = foreign _ 8 due (inside-row i) (omega arith) (omega arith) e
+inside-kind i is-M due h e = foreign _ 9 due (inside-row i) (omega arith) (omega arith) e
+inside-kind {k} {kind} i (is-other _ o) due h e = foreign k 10 due (inside-row i) (omega arith) (omega arith) (subst (λ (n : ℕ). may-follow k n due false ≡ true) o e)
+
+-- and after it the rule goes on
+pub inside-next : {k kind : ℕ} → Inside k → Kind kind → (due : ℕ) → 1 ≤ due → may-follow k (index kind) due false ≡ true → Inside (index kind)
+inside-next i k due h e = let n = inside-kind i k due h e in rw (n .row) (at-node (n .node))
+
+-- between rules: a symbol or a rule
+pub between-kind : {k kind : ℕ} {ar : List ℕ} {us : List Rule} → Between k ar us → Kind kind → may-follow k (index kind) 0 false ≡ true
+    → (kind ≡ S-symbol) ⊎ (kind ≡ R-rule)
+unfolding index
+between-kind b is-S e = inl refl
+between-kind b is-R e = inr refl
+between-kind b is-F e = absurd (between-no-node b (symbol 0) e)
+between-kind b is-V e = absurd (between-no-node b (variable 0) e)
+between-kind b is-C e = foreign _ 6 0 (between-row b) (omega arith) (omega arith) e
+between-kind b is-P e = foreign _ 7 0 (between-row b) (omega arith) (omega arith) e
+between-kind b is-W e = foreign _ 8 0 (between-row b) (omega arith) (omega arith) e
+between-kind b is-M e = foreign _ 9 0 (between-row b) (omega arith) (omega arith) e
+between-kind {k} {kind} b (is-other _ o) e = foreign k 10 0 (between-row b) (omega arith) (omega arith) (subst (λ (n : ℕ). may-follow k n 0 false ≡ true) o e)

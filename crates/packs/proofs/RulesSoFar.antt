@@ -1,14 +1,14 @@
 -- The rules read so far and how they are kept: the invariant of `read_rules`, and what each turn of its loop makes of it.
-use mathlib.Core.Path.{_≡_, refl, sym, ap, _∙_, subst}
-use mathlib.Core.Bool.{Bool, true, false}
+use mathlib.Core.Path.{_≡_, refl, sym, _∙_, subst}
+use mathlib.Core.Bool.{true, false}
 use mathlib.Core.List.{List, [], _∷_, _++_}
 use mathlib.Core.Logic.{⊎-elim}
-use Prim.Native.Nat.{ℕ, zero, suc, _+_, _*_, _-_, _/_, _%_, _≤_, _<_}
+use Prim.Native.Nat.{ℕ, zero, suc, _+_, _*_, _/_, _≤_, _<_}
 use native.Mathlib.Omega.{arith}
 use native.Mathlib.Numerals.{add-one}
 use borrow.Author.Count.{below-more}
 use lib.ListN.{length, getD, take, drop, set, length-append, length-set, drop-of-length-le, List·getD-append}
-use lib.Seq.{length-take-le, drop-drop, getD-set-same, getD-set-other, getD-append-seam, getD-at}
+use lib.Seq.{length-take-le, drop-drop, getD-set-same, getD-set-other, getD-at}
 use Rattle.rewriting.specs.Terms.{Rule, System, rule, no-rule}
 use Rattle.records.specs.declared.Record.{Record}
 use Rattle.records.specs.declared.Answer.{Answer}
@@ -16,7 +16,7 @@ use Rattle.records.specs.declared.Wanted.the-variants.{Found, Stray}
 use Rattle.records.specs.Answers.{outcome-of}
 use Rattle.records.specs.Outcomes.{Outcome, refused, passed, after}
 use Rattle.records.specs.Records.{record-at, all-records}
-use Rattle.records.specs.Order.{S-symbol, R-rule, index, may-follow, pack-edge}
+use Rattle.records.specs.Order.{S-symbol, R-rule, index, may-follow}
 use Rattle.records.specs.Wanted.{wanted-at}
 use Rattle.records.proofs.Bytes.{drop-records, length-of-records}
 use Rattle.records.proofs.Table.{kind-of}
@@ -24,10 +24,11 @@ use Rattle.terms.specs.Sides.{flat}
 use Rattle.terms.specs.Kept.{Kept}
 use Rattle.packs.specs.Reading.{between-rules, pack-end, pack-from}
 use Rattle.packs.specs.Stored.{Rule-at, node-steps, Rule-read, rule-header, row-after}
-use Rattle.packs.proofs.Places.{Between, at-start, after-symbol, after-node, between-end, between-symbol}
+use Rattle.packs.proofs.OneRecord.{stray-record}
+use Rattle.packs.proofs.Places.{Between, at-start, after-symbol, after-node, between-end, between-symbol, between-kind}
 use Rattle.packs.proofs.Wanted.{found-at, stray-at}
-use Rattle.packs.proofs.Phases.{between-kind, stray-record, Header-told, header-told, header-refused, rule-phase}
-use Rattle.packs.proofs.KeptNodes.{kept-first, kept-others, kept-before}
+use Rattle.packs.proofs.RulesPhase.{header-told, header-refused, rule-phase}
+use Rattle.packs.proofs.KeptNodes.{kept-left, kept-right, kept-before}
 use Rattle.packs.proofs.OneRule.{made, Rule-told, refused-told, passed-told}
 
 -- A RULE KEPT
@@ -51,8 +52,8 @@ rule-new : (ts now : List ℕ) (base b c j : ℕ) (u : Rule) → getD ts (2 * j)
     → length (flat (u .left)) ≡ b → length (flat (u .right)) ≡ c → Kept now base (flat (u .left) ++ flat (u .right)) → Rule-at ts now j u
 rule-new ts now base b c j u e f g l r k =
     record {
-      left-kept = rw e (kept-first now base (flat (u .left)) (flat (u .right)) k);
-      right-kept = rw f (rw l at (kept-others now base (flat (u .left)) (flat (u .right)) k));
+      left-kept = rw e (kept-left now base (flat (u .left)) (flat (u .right)) k);
+      right-kept = rw f (rw l at (kept-right now base (flat (u .left)) (flat (u .right)) k));
       left-long = omega arith;
       right-long = omega arith;
     }

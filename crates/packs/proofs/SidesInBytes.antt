@@ -1,20 +1,20 @@
 -- A rule's sides, judged in bytes, come to what they come to as terms: the bytes are balanced exactly if they are one term,
 -- the first byte tells an application, and the variables of the bytes are those of the term.
 use mathlib.Core.Path.{_≡_, refl, sym, ap, _∙_}
-use mathlib.Core.Bool.{Bool, true, false, _&&_, _||_, cond, true≢false, false≢true}
+use mathlib.Core.Bool.{Bool, true, false, cond, false≢true}
 use mathlib.Core.List.{List, [], _∷_, _++_, append-nil, append-assoc}
 use mathlib.Core.Option.{Option, none, some}
-use Prim.Native.Nat.{ℕ, zero, suc, _+_, _-_, _≤_, _<_}
+use Prim.Native.Nat.{ℕ, zero, suc, _+_, _≤_, _<_}
 use native.Mathlib.Nat.{add-zero}
 use native.Mathlib.Omega.{arith}
 use lib.Dec.{ltb, eqb}
-use lib.ListN.{length, getD, take, drop}
+use lib.ListN.{length, getD, take}
 use lib.Seq.{getD-take}
-use borrow.Author.Tests.{lt-ltb, le-ltb, eq-eqb, ne-eqb, eqb-true, eqb-false}
+use borrow.Author.Tests.{lt-ltb, le-ltb, eq-eqb, ne-eqb, eqb-true}
 use Rattle.rewriting.specs.Terms.{Tree, var, app, nil, cons, Rule, System, width, is-list, well, is-term}
 use Rattle.rewriting.specs.Systems.{is-app, variables, member, all-in}
-use Rattle.rewriting.proofs.Basics.{by-test, not-both, same-test, Each, each-nil, each-cons, each-head, each-tail}
-use Rattle.rewriting.proofs.Trees.{term-not-list, term-well, term-by}
+use Rattle.rewriting.proofs.Basics.{by-test, not-both, same-test, Each, each-head, each-tail}
+use Rattle.rewriting.proofs.Trees.{term-well, term-by}
 use Rattle.records.specs.Outcomes.{Outcome, refused, passed, after}
 use Rattle.terms.specs.Sides.{Node, variable, symbol, flat, side}
 use Rattle.terms.specs.Kept.{code, codes, code-arity, balanced}

@@ -1,8 +1,8 @@
 -- A pack's symbols, one record at a time: what a symbol record comes to, and the steps after it.
-use mathlib.Core.Path.{_≡_, refl, sym}
-use mathlib.Core.Bool.{Bool, true, false, _&&_}
+use mathlib.Core.Path.{_≡_, refl}
+use mathlib.Core.Bool.{true, false, _&&_}
 use mathlib.Core.List.{List, [], _∷_, _++_}
-use Prim.Native.Nat.{ℕ, zero, suc, _≤_, _<_}
+use Prim.Native.Nat.{ℕ, suc, _≤_, _<_}
 use lib.Dec.{ltb, leb, eqb}
 use lib.Seq.{append-snoc}
 use borrow.Author.Tests.{ltb-true, leb-true, eq-eqb, ne-eqb}

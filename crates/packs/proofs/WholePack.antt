@@ -1,16 +1,15 @@
 -- A pack as `read_pack` reads it, phase by phase: what each phase's answer and arrays tell of the pack, and that at the end
 -- the arrays store the pack that was read.
 use mathlib.Core.Path.{_≡_, refl, sym, ap, _∙_}
-use mathlib.Core.Bool.{true, false, _||_, not, or-true}
-use mathlib.Core.List.{List, [], _∷_}
-use Prim.Native.Nat.{ℕ, _+_, _*_, _/_, _%_, _≤_, _<_}
+use mathlib.Core.Bool.{or-true}
+use mathlib.Core.List.{List, []}
+use Prim.Native.Nat.{ℕ, _+_, _*_, _%_, _≤_, _<_}
 use native.Mathlib.Omega.{arith}
 use borrow.Author.Tests.{lt-ltb, le-ltb, eq-eqb, ne-eqb}
 use lib.ListN.{length, getD, take, drop}
 use lib.Seq.{length-take-le}
 use Rattle.rewriting.specs.Terms.{System, rule}
 use Rattle.rewriting.specs.Systems.{Good}
-use Rattle.rewriting.proofs.Basics.{or-right}
 use Rattle.rewriting.proofs.Trees.{term-not-list}
 use Rattle.records.specs.declared.Answer.{Answer}
 use Rattle.records.specs.declared.Answer.the-variants.{Passed, Refused}
@@ -18,16 +17,15 @@ use Rattle.records.specs.declared.Refusal.{Refusal}
 use Rattle.records.specs.Answers.{number-of, outcome-of}
 use Rattle.records.specs.Outcomes.{Outcome, refused, passed, after}
 use Rattle.records.specs.Records.{record-at, all-records, length-bad}
-use Rattle.records.specs.Order.{S-symbol, pack-edge}
+use Rattle.records.specs.Order.{S-symbol}
 use Rattle.records.proofs.Outcomes.{not-passed, passed-same}
 use Rattle.records.proofs.Bytes.{drop-records}
-use Rattle.terms.specs.Sides.{flat}
 use Rattle.terms.proofs.Parsing.{flat-positive}
 use Rattle.packs.specs.Reading.{between-rules, most-bytes, most-symbols, pack-from, read-pack}
 use Rattle.packs.specs.Encoding.{Good-pack}
 use Rattle.packs.specs.Stored.{Rule-at, Stored, symbol-steps, row-after, Symbols-read, Rules-read, Marked}
 use Rattle.packs.proofs.OnlyEncodings.{pack-good}
-use Rattle.packs.proofs.Phases.{symbols-phase, symbols-told}
+use Rattle.packs.proofs.SymbolsPhase.{symbols-phase, symbols-told}
 use Rattle.packs.proofs.RulesSoFar.{from-rules}
 use Rattle.packs.proofs.OneRule.{as-refused}
 use Rattle.packs.proofs.Marks.{marks-defined}

@@ -1,27 +1,19 @@
 -- `packs::read_pack` meets its contract: the laws of WholePack.antt, phase by phase.
-use mathlib.Core.Path.{_≡_, refl, sym, ap, _∙_}
+use mathlib.Core.Path.{_≡_, refl}
 use mathlib.Core.List.{List}
-use Prim.Native.Nat.{ℕ, _+_, _*_, _%_, _≤_, _<_}
+use Prim.Native.Nat.{ℕ}
 use native.Mathlib.Omega.{arith}
 use borrow.Author.Needs.{needs}
-use lib.ListN.{length, getD, take}
 use Rattle.rewriting.specs.Terms.{System}
 use Rattle.records.specs.declared.Refusal.{Refusal}
-use Rattle.records.specs.declared.Refusal.the-variants.{CutFile}
 use Rattle.records.specs.Answers.{number-of}
 use Rattle.records.specs.Outcomes.{Outcome, refused, passed}
 use Rattle.packs.specs.declared.Counts.{Counts}
 use Rattle.packs.specs.declared.PackRead.the-variants.{Read, Refused as PackRefused}
-use Rattle.packs.specs.Reading.{read-pack}
 use Rattle.packs.specs.Stored.{Stored, Pack-read}
 use Rattle.packs.proofs.WholePack.{too-long, not-whole, symbols-refused, Symbols-done, symbols-done, rules-refused, Rules-done, rules-done, rules-few, left-begins, stored}
 use Rattle.packs.proofs.read_pack.Statement.{statement}
 use Rattle.packs.proofs.read_pack.Tie as tie
-use Rattle.packs.proofs.read_pack.Reads as reads
-use Rattle.packs.proofs.read_pack.Lts as lts
-use Rattle.packs.proofs.rules.mark_defined.Reads as mark-defined-reads
-use Rattle.packs.proofs.rules.read_rules.Reads as read-rules-reads
-use Rattle.packs.proofs.symbols.read_symbols.Reads as read-symbols-reads
 
 refuses : (o : Outcome System) (x : Refusal) (ar ss ns ms : List ℕ) → o ≡ refused (number-of x) → Pack-read o (PackRefused x) ar ss ns ms
 unfolding Pack-read

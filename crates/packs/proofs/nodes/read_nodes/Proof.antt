@@ -1,9 +1,9 @@
 -- `packs::nodes::read_nodes` meets its contract. The loop's invariant: some nodes were read and are kept, and the steps of
 -- the records left, with these nodes before, are the steps of all.
 use mathlib.Core.Path.{_≡_, refl, sym, ap, _∙_}
-use mathlib.Core.Bool.{Bool, true, false}
+use mathlib.Core.Bool.{true, false}
 use mathlib.Core.List.{List, [], _∷_, _++_, append-nil}
-use Prim.Native.Nat.{ℕ, zero, suc, _+_, _*_, _-_, _/_, _≤_, _<_}
+use Prim.Native.Nat.{ℕ, suc, _+_, _*_, _-_, _/_, _≤_, _<_}
 use native.Mathlib.Omega.{arith}
 use native.Mathlib.Nat.{add-zero, sub-zero}
 use native.Mathlib.Numerals.{add-one}
@@ -21,17 +21,12 @@ use Rattle.records.specs.Order.{index, may-follow}
 use Rattle.records.specs.Wanted.{wanted-at}
 use Rattle.records.proofs.Bytes.{drop-records, length-of-records}
 use Rattle.terms.specs.Sides.{Node}
-use Rattle.terms.specs.Kept.{Kept, code, codes}
+use Rattle.terms.specs.Kept.{code, codes}
 use Rattle.packs.specs.Stored.{Run, node-outcome, coded, more-run, node-steps, Nodes-read}
 use Rattle.packs.proofs.Wanted.{found-at, stray-at}
 use Rattle.packs.proofs.NodeSteps.{Small, outcome-small, code-small, coded-passed, coded-refused, codes-append, steps-stray, steps-refused, steps-read, steps-end, with-nodes, with-none, with-more}
 use Rattle.packs.proofs.nodes.read_nodes.Statement.{statement}
 use Rattle.packs.proofs.nodes.read_nodes.Tie as tie
-use Rattle.packs.proofs.nodes.read_nodes.Reads as reads
-use Rattle.packs.proofs.nodes.read_nodes.Lts as lts
-use Rattle.packs.proofs.nodes.node_code.Reads as node-code-reads
-use Rattle.records.proofs.order.index.Reads as index-reads
-use Rattle.records.proofs.read_wanted.Reads as read-wanted-reads
 
 -- what the records from the j-th on come to
 abbrev steps-left : (pack : List ℕ) (from count symbols last j : ℕ) → Outcome Run
@@ -44,7 +39,7 @@ record Node-read (pack : List ℕ) (from count symbols last j next byte : ℕ) :
   small : Small symbols node
   then : steps-left pack from count symbols last j ≡ after (steps-left pack from count symbols next (j + 1)) (λ y. more-run node y)
 
--- one turn, by what stands at the j-th record
+-- ONE TURN, by what stands at the j-th record
 module _ (pack : List ℕ) (from count symbols last j : ℕ) (h : j < count) where
   none-stands : length pack / 8 ≤ from + j → steps-left pack from count symbols last j ≡ refused 2
   none-stands k =
@@ -76,6 +71,8 @@ module _ (pack : List ℕ) (from count symbols last j : ℕ) (h : j < count) whe
             small = outcome-small symbols r (x .0) (x .1);
             then = rw (there, stands .1, d) (steps-read symbols last r _ (count - (j + 1)) (x .0) (rw d at (stands .0)) (x .1));
           }
+
+-- THE INVARIANT
 
 record So-far (pack : List ℕ) (from count symbols base : ℕ) (before now : List ℕ) (last j : ℕ) : Type 0 where
   read : List Node
@@ -126,13 +123,22 @@ module _ (pack : List ℕ) (from count symbols base : ℕ) (before : List ℕ) w
           kept = rw (drop-set-add base now j b, add-one j, take-suc-set (drop base now) j b l, codes-append (s .read), s .kept, n .byte-is);
         }
 
--- the record that was found, at the place before the node's code
+-- THE NEEDS
+
+-- what the record reader answered
+strayed : (c : tie.After-enum-told Inv-loop μ-loop)
+    → let l = c .before .before .before .before .before .loop in
+    let a = c .before .before .before .before .before .before .before .before .args in
+    wanted-at (a .pack .now) (8 * (a .from + l .j)) (l .last) (a .count - l .j) false ≡ Stray
+strayed c = sym (c .before .before .read-wanted .ensures) ∙ c .enum-told .given .1
+
 found : (c : tie.After-known-told Inv-loop μ-loop)
     → let l = c .before .before .before .before .before .before .loop in
     let a = c .before .before .before .before .before .before .before .before .before .args in
     wanted-at (a .pack .now) (8 * (a .from + l .j)) (l .last) (a .count - l .j) false ≡ Found (c .before .r .given .0 .0)
 found c = sym (c .before .before .before .read-wanted .ensures) ∙ c .before .r .given .1
 
+-- and the node that was read
 read : (c : tie.After-known-told3 Inv-loop μ-loop)
     → let w = c .before .before .before .before in
     let l = w .before .before .before .before .before .before .loop in
@@ -140,9 +146,44 @@ read : (c : tie.After-known-told3 Inv-loop μ-loop)
     Node-read (a .pack .now) (a .from) (a .count) (a .symbols) (l .last) (l .j) (index (w .before .r .given .0 .0 .kind)) (c .before .code .given .0 .0)
 read c =
     let w = c .before .before .before .before in
-    let l = w .before .before .before .before .before .before .loop in
-    node-read _ _ _ _ (l .last) (l .j) (w .before .before .before .before .before .loop-test .taken) (w .before .before .before .before .if1 .left) (found w)
+    let t = w .before .before .before .before in
+    let l = t .before .before .loop in
+    node-read _ _ _ _ (l .last) (l .j) (t .before .loop-test .taken) (t .if1 .left) (found w)
     (sym (ap outcome-of (c .before .code .given .1)) ∙ c .before .before .before .node-code .ensures)
+
+file-end : tie.Need-returns Inv-loop μ-loop
+file-end c =
+    let l = c .before .before .loop in
+    refuses _ _ _ _ _ _ _ (l .last) (l .j) (l .inv .3) (l .inv .2) _ refl (none-stands _ _ _ _ (l .last) (l .j) (c .before .loop-test .taken) (c .if1 .taken))
+
+stray-record : tie.Need-returns-2 Inv-loop μ-loop
+stray-record c =
+    let t = c .before .before .before in
+    let l = t .before .before .loop in
+    refuses _ _ _ _ _ _ _ (l .last) (l .j) (l .inv .3) (l .inv .2) _ refl (stray _ _ _ _ (l .last) (l .j) (t .before .loop-test .taken) (t .if1 .left) (strayed c))
+
+bad-node : tie.Need-returns-3 Inv-loop μ-loop
+bad-node c =
+    let w = c .before .before .before .before in
+    let t = w .before .before .before .before in
+    let l = t .before .before .loop in
+    refuses _ _ _ _ _ _ _ (l .last) (l .j) (l .inv .3) (l .inv .2) _ refl
+    (node-refused _ _ _ _ (l .last) (l .j) (t .before .loop-test .taken) (t .if1 .left) (found w)
+    (sym (ap outcome-of (c .before .x .given .1)) ∙ c .before .before .before .node-code .ensures))
+
+again : tie.Need-loop-again Inv-loop μ-loop
+again c =
+    let l = c .before .before .before .before .before .before .before .before .before .before .before .loop in (
+      omega arith,
+      c .index .ensures .1,
+      simp length-set (omega arith),
+      rw (c .index .ensures .0) (more _ _ _ _ _ _ (l .nodes) (l .last) (l .j) (l .inv .3) (l .inv .2) (read (c .before)) (omega arith)),
+    )
+
+all-read : tie.Need-returns-4 Inv-loop μ-loop
+all-read c =
+    let l = c .before .loop in
+    ends _ _ _ _ _ _ (l .nodes) (l .last) (l .j) (l .inv .3) (l .inv .2) (l .inv .0) (c .loop-test .left) (omega arith)
 
 pub read-nodes-spec : {M : Type 1} → statement M
 read-nodes-spec =
@@ -153,9 +194,7 @@ read-nodes-spec =
     (λ c. (omega arith, omega arith, refl, start _ _ _ _ _ _))
     (λ c. omega arith)
     (λ c. omega arith)
-    (λ c.
-    let l = c .before .before .loop in
-    refuses _ _ _ _ _ _ _ (l .last) (l .j) (l .inv .3) (l .inv .2) _ refl (none-stands _ _ _ _ (l .last) (l .j) (c .before .loop-test .taken) (c .if1 .taken)))
+    file-end
     (λ c. omega arith)
     (λ c. omega arith)
     (λ c. omega arith)
@@ -163,21 +202,11 @@ read-nodes-spec =
     (λ c. c .match .keys1)
     (λ c. c .match .keys2)
     (λ c. omega arith)
-    (λ c.
-    let t = c .before .before .before in
-    let l = t .before .before .loop in
-    refuses _ _ _ _ _ _ _ (l .last) (l .j) (l .inv .3) (l .inv .2) _ refl
-    (stray _ _ _ _ (l .last) (l .j) (t .before .loop-test .taken) (t .if1 .left) (sym (c .before .before .read-wanted .ensures) ∙ c .enum-told .given .1)))
+    stray-record
     (λ c κs. search needs)
     (λ c. c .match2 .keys1)
     (λ c. omega arith)
-    (λ c.
-    let w = c .before .before .before .before in
-    let t = w .before .before .before .before in
-    let l = t .before .before .loop in
-    refuses _ _ _ _ _ _ _ (l .last) (l .j) (l .inv .3) (l .inv .2) _ refl
-    (node-refused _ _ _ _ (l .last) (l .j) (t .before .loop-test .taken) (t .if1 .left) (found w)
-    (sym (ap outcome-of (c .before .x .given .1)) ∙ c .before .before .before .node-code .ensures)))
+    bad-node
     (λ c. c .match2 .keys2)
     (λ c. let n = read c in omega (arith, n .byte-is, code-small _ (n .node) (omega arith) (n .small)))
     (λ c. omega arith)
@@ -185,12 +214,6 @@ read-nodes-spec =
     (λ c κs. search needs)
     (λ c. omega arith)
     (λ c. omega arith)
-    (λ c.
-    let l = c .before .before .before .before .before .before .before .before .before .before .before .loop in (
-      omega arith,
-      c .index .ensures .1,
-      simp length-set (omega arith),
-      rw (c .index .ensures .0) (more _ _ _ _ _ _ (l .nodes) (l .last) (l .j) (l .inv .3) (l .inv .2) (read (c .before)) (omega arith)),
-    ))
+    again
     (λ c. omega arith)
-    (λ c. let l = c .before .loop in ends _ _ _ _ _ _ (l .nodes) (l .last) (l .j) (l .inv .3) (l .inv .2) (l .inv .0) (c .loop-test .left) (omega arith)))
+    all-read)

@@ -1,18 +1,14 @@
 -- `packs::rules::mark_defined` meets its contract. The loop's invariant: the marks are those of the rules passed.
 use mathlib.Core.Path.{_≡_, _∙_}
 use mathlib.Core.Logic.{⊎-elim}
-use mathlib.Core.List.{List}
-use Prim.Native.Nat.{ℕ, _+_, _*_, _-_, _≤_, _<_}
+use Prim.Native.Nat.{_+_, _*_, _-_, _≤_}
 use native.Mathlib.Omega.{arith}
 use borrow.Author.Needs.{needs}
-use lib.ListN.{length, getD, set, length-set, length-replicate}
+use lib.ListN.{length, getD, length-set, length-replicate}
 use Rattle.packs.specs.Stored.{Marked}
 use Rattle.packs.proofs.Marks.{marked-none, marked-more, marked-same}
 use Rattle.packs.proofs.rules.mark_defined.Statement.{statement}
 use Rattle.packs.proofs.rules.mark_defined.Tie as tie
-use Rattle.packs.proofs.rules.mark_defined.Reads as reads
-use Rattle.packs.proofs.rules.mark_defined.Lts as lts
-use Rattle.packs.proofs.rules.clear.Reads as clear-reads
 
 abbrev Inv-loop : tie.InvT-loop
 Inv-loop starts nodes rules marks₀ i₀ marks i = (i ≤ rules) × (length marks ≡ 64) × Marked starts nodes i marks

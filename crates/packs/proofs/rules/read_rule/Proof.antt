@@ -1,7 +1,7 @@
 -- `packs::rules::read_rule` meets its contract: the nodes that were read are kept, so their bytes are what is judged.
 use mathlib.Core.Path.{_≡_, refl, sym, ap, _∙_}
 use mathlib.Core.List.{List, _++_}
-use Prim.Native.Nat.{ℕ, _+_, _≤_, _<_}
+use Prim.Native.Nat.{ℕ, _+_}
 use native.Mathlib.Omega.{arith}
 use borrow.Author.Needs.{needs}
 use lib.ListN.{length, take, drop, length-drop, take-append-drop}
@@ -10,20 +10,16 @@ use Rattle.records.specs.declared.Record.{Record}
 use Rattle.records.specs.declared.Answer.{Answer}
 use Rattle.records.specs.declared.Answer.the-variants.{Passed, Refused}
 use Rattle.records.specs.declared.Refusal.{Refusal}
-use Rattle.records.specs.Answers.{outcome-of, number-of}
+use Rattle.records.specs.Answers.{outcome-of}
 use Rattle.records.specs.Outcomes.{Outcome, refused, passed, after}
 use Rattle.records.specs.Records.{all-records}
 use Rattle.records.proofs.Outcomes.{not-passed, passed-same}
 use Rattle.terms.specs.Kept.{Kept, codes, part}
 use Rattle.packs.specs.Stored.{Run, node-steps, rule-judged, Nodes-read, Rule-read}
-use Rattle.packs.proofs.Phases.{nodes-told}
-use Rattle.packs.proofs.KeptNodes.{kept-part, kept-first, kept-others}
+use Rattle.packs.proofs.RulesPhase.{nodes-told}
+use Rattle.packs.proofs.KeptNodes.{kept-part, kept-left, kept-right}
 use Rattle.packs.proofs.rules.read_rule.Statement.{statement}
 use Rattle.packs.proofs.rules.read_rule.Tie as tie
-use Rattle.packs.proofs.rules.read_rule.Reads as reads
-use Rattle.packs.proofs.rules.read_rule.Lts as lts
-use Rattle.packs.proofs.nodes.read_nodes.Reads as read-nodes-reads
-use Rattle.packs.proofs.sides.judge_rule.Reads as judge-rule-reads
 
 -- the nodes were refused
 nodes-refused : (o : Outcome Run) {a : Answer} (x : Refusal) (l base : ℕ) (ar before now : List ℕ) → a ≡ Refused x → Nodes-read o a base before now
@@ -42,8 +38,8 @@ module _ (symbols b c base last : ℕ) (rs : List Record) (ar before now : List 
       let both : Kept now base (ls ++ rs) = rw (take-append-drop b (y .nodes)) k in
       let l : length ls ≡ b = length-take-le b (y .nodes) (omega arith) in
       let r = length-drop b (y .nodes) in (
-        kept-part now base (base + b) ls (kept-first now base ls rs both) (rw l),
-        kept-part now (base + b) (base + b + c) rs (rw l at (kept-others now base ls rs both)) (omega arith),
+        kept-part now base (base + b) ls (kept-left now base ls rs both) (rw l),
+        kept-part now (base + b) (base + b + c) rs (rw l at (kept-right now base ls rs both)) (omega arith),
       )
 
   nodes-judged : {a : Answer} (j x : Answer) (o : Outcome Run) → node-steps symbols 2 (b + c) rs ≡ o → a ≡ Passed last → Nodes-read o a base before now
@@ -59,7 +55,8 @@ module _ (symbols b c base last : ℕ) (rs : List Record) (ar before now : List 
 refused-nodes : tie.Need-returns
 refused-nodes c =
     let n = c .before .before .before .before .before in
-    nodes-refused _ (c .before .x .given .0 .0) _ _ _ _ (n .read-nodes .last .1 .1 .1 .1 .0) (c .before .x .given .1) (n .read-nodes .ensures)
+    let a = n .before .before .before .before .before .args in
+    nodes-refused (node-steps (a .symbols) 2 (a .b + a .c) (drop (a .from) (all-records (a .pack .now)))) (c .before .x .given .0 .0) _ _ _ _ (n .read-nodes .last .1 .1 .1 .1 .0) (c .before .x .given .1) (n .read-nodes .ensures)
 
 judged : (c : tie.After-judge-rule) (x : Answer) → let l = c .before .before .before in
     let n = l .before .before .before .before in

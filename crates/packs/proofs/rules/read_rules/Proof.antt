@@ -1,34 +1,27 @@
 -- `packs::rules::read_rules` meets its contract. The loop's invariant, `So-far` of RulesSoFar.antt: the rules read so far are
 -- kept, and the records left come, after these rules, to what all come to.
 use mathlib.Core.Path.{_≡_, refl, sym, ap, _∙_}
-use mathlib.Core.Logic.{_⊎_, ⊎-elim}
+use mathlib.Core.Logic.{⊎-elim}
 use mathlib.Core.Bool.{false}
-use mathlib.Core.List.{List, []}
-use Prim.Native.Nat.{ℕ, zero, suc, _+_, _*_, _-_, _/_, _≤_, _<_}
+use mathlib.Core.List.{List}
+use Prim.Native.Nat.{ℕ, zero, suc, _*_, _-_, _/_, _≤_, _<_}
 use native.Mathlib.Omega.{arith}
 use borrow.Author.Needs.{needs}
-use lib.ListN.{length, getD, take, drop, set, length-set}
+use lib.ListN.{length, take, length-set}
 use lib.Seq.{getD-set-same}
 use Rattle.rewriting.specs.Terms.{System, rule}
-use Rattle.records.specs.declared.Record.{Record}
 use Rattle.records.specs.declared.Answer.{Answer}
-use Rattle.records.specs.declared.Answer.the-variants.{Passed, Refused}
+use Rattle.records.specs.declared.Answer.the-variants.{Passed}
 use Rattle.records.specs.declared.Wanted.the-variants.{Found, Stray}
 use Rattle.records.specs.Answers.{outcome-of}
 use Rattle.records.specs.Outcomes.{Outcome, refused, passed}
 use Rattle.records.specs.Wanted.{wanted-at}
 use Rattle.packs.specs.Stored.{rule-header, row-after, Rules-read}
 use Rattle.packs.proofs.Places.{between-row}
-use Rattle.packs.proofs.Phases.{Header-told, header-told}
+use Rattle.packs.proofs.RulesPhase.{Header-told, header-told}
 use Rattle.packs.proofs.RulesSoFar.{from-rules, So-far, start, ends, stray, header-refuses, rule-refuses, more}
 use Rattle.packs.proofs.rules.read_rules.Statement.{statement}
 use Rattle.packs.proofs.rules.read_rules.Tie as tie
-use Rattle.packs.proofs.rules.read_rules.Reads as reads
-use Rattle.packs.proofs.rules.read_rules.Lts as lts
-use Rattle.packs.proofs.rules.header.Reads as header-reads
-use Rattle.packs.proofs.rules.keep_ends.Reads as keep-ends-reads
-use Rattle.packs.proofs.rules.read_rule.Reads as read-rule-reads
-use Rattle.records.proofs.read_wanted.Reads as read-wanted-reads
 
 abbrev Inv-loop : tie.InvT-loop
 Inv-loop pack symbols arities starts₀ nodes₀ n last₀ at₀ base₀ i₀ starts nodes last at base i =
@@ -71,7 +64,12 @@ starts c =
       rw (first-row c) (start _ _ (a .symbols) (omega arith) _ _ (getD-set-same (a .starts .now) 0 0 0 (omega arith))),
     )
 
--- the record that was found
+-- what the record reader answered
+strayed : (c : tie.After-enum-told Inv-loop μ-loop)
+    → let l = c .before .before .before .before .loop in
+    wanted-at (c .before .before .before .before .before .before .before .before .before .before .args .pack .now) (8 * l .at) (l .last) 0 false ≡ Stray
+strayed c = sym (c .before .before .read-wanted .ensures) ∙ c .enum-told .given .1
+
 found : (c : tie.After-r Inv-loop μ-loop)
     → let l = c .before .before .before .before .loop in
     wanted-at (c .before .before .before .before .before .before .before .before .before .before .args .pack .now) (8 * l .at) (l .last) 0 false ≡ Found (c .r .given .0 .0)
@@ -98,12 +96,12 @@ same c =
     let pre = t .before .before .before .before .before .before .before .pre in
     omega (arith, pre .0, t .before .loop .inv)
 
-stray-found : tie.Need-returns Inv-loop μ-loop
-stray-found c =
+stray-record : tie.Need-returns Inv-loop μ-loop
+stray-record c =
     let t = c .before .before .before in
     let l = t .before .loop in
     refuses _ _ _ _ _ _ refl
-    (stray _ _ _ (omega arith) _ _ (l .last) (l .at) (l .base) (l .i) (l .inv .4) (t .loop-test .taken) (sym (c .before .before .read-wanted .ensures) ∙ c .enum-told .given .1))
+    (stray _ _ _ (omega arith) _ _ (l .last) (l .at) (l .base) (l .i) (l .inv .4) (t .loop-test .taken) (strayed c))
 
 head-refused : tie.Need-returns-2 Inv-loop μ-loop
 head-refused c =
@@ -176,7 +174,7 @@ read-rules-spec =
     (λ c. c .match .keys2)
     (λ c. omega arith)
     (λ c. omega arith)
-    stray-found
+    stray-record
     (λ c. omega arith)
     (λ c. omega arith)
     (λ c κs. search needs)

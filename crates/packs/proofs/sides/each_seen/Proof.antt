@@ -1,7 +1,7 @@
 -- `packs::sides::each_seen` meets its contract. The loop's invariant: what is left has all its marks exactly if the whole has.
 use mathlib.Core.Path.{_≡_, refl, sym, ap, _∙_}
 use mathlib.Core.Logic.{⊎-elim}
-use mathlib.Core.Bool.{Bool, true, false, _&&_}
+use mathlib.Core.Bool.{Bool, true, false}
 use mathlib.Core.List.{List}
 use Prim.Native.Nat.{ℕ, _+_, _-_, _≤_, _<_}
 use native.Mathlib.Omega.{arith}
@@ -13,8 +13,6 @@ use Rattle.packs.specs.Stored.{all-seen}
 use Rattle.packs.proofs.Seen.{seen-symbol, seen-variable, seen-neither}
 use Rattle.packs.proofs.sides.each_seen.Statement.{statement}
 use Rattle.packs.proofs.sides.each_seen.Tie as tie
-use Rattle.packs.proofs.sides.each_seen.Reads as reads
-use Rattle.packs.proofs.sides.each_seen.Lts as lts
 
 abbrev Inv-loop : tie.InvT-loop
 Inv-loop nodes from to seen i₀ i = (from ≤ i) × (i ≤ to) × (all-seen seen (part nodes i to) ≡ all-seen seen (part nodes from to))

@@ -1,12 +1,11 @@
 -- `packs::sides::variables_seen` meets its contract. The loop's invariant: the marks are those of the nodes passed.
-use mathlib.Core.Path.{_≡_, refl, sym, ap, _∙_}
+use mathlib.Core.Path.{_≡_, refl, _∙_}
 use mathlib.Core.Logic.{⊎-elim}
 use mathlib.Core.List.{List, [], _∷_, _++_}
-use mathlib.Core.Bool.{Bool, true, false}
+use mathlib.Core.Bool.{Bool, true}
 use Prim.Native.Nat.{ℕ, suc, _+_, _-_, _≤_, _<_}
-use native.Mathlib.Numerals.{add-one}
 use native.Mathlib.Omega.{arith}
-use lib.ListN.{length, getD, take, drop, set, length-drop, length-set}
+use lib.ListN.{length, getD, drop, set, length-drop, length-set}
 use lib.Seq.{take-suc, getD-drop}
 use Rattle.terms.specs.Kept.{part}
 use Rattle.terms.proofs.Parts.{part-none}
@@ -14,8 +13,6 @@ use Rattle.packs.specs.Stored.{Seen-in}
 use Rattle.packs.proofs.Seen.{seen-none, seen-same, seen-more}
 use Rattle.packs.proofs.sides.variables_seen.Statement.{statement}
 use Rattle.packs.proofs.sides.variables_seen.Tie as tie
-use Rattle.packs.proofs.sides.variables_seen.Reads as reads
-use Rattle.packs.proofs.sides.variables_seen.Lts as lts
 
 abbrev Inv-loop : tie.InvT-loop
 Inv-loop nodes from to seen₀ i₀ seen i = (from ≤ i) × (i ≤ to) × (length seen ≡ 16) × Seen-in (part nodes from i) seen

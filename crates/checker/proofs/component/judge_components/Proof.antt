@@ -1,0 +1,137 @@
+-- `checker::component::judge_components` meets its contract. The loop's invariant: the records of the components from component i on
+-- stand from record `at` on, and their number is the number of all.
+use mathlib.Core.Path.{_≡_, refl, sym, ap, _∙_}
+use mathlib.Core.Bool.{Bool, true, false, cond}
+use mathlib.Core.List.{List, _∷_}
+use Prim.Native.Nat.{ℕ, suc, _+_, _-_, _≤_, _<_}
+use native.Mathlib.Numerals.{add-one}
+use native.Mathlib.Omega.{arith}
+use borrow.Author.Needs.{needs}
+use lib.Dec.{eqb}
+use lib.ListN.{length, getD, drop, drop-of-length-le}
+use lib.Seq.{drop-cons}
+use Rattle.rewriting.specs.Terms.{System}
+use Rattle.records.specs.declared.Answer.{Answer}
+use Rattle.records.specs.declared.Answer.the-variants.{Passed, Refused}
+use Rattle.records.specs.declared.Refusal.{Refusal}
+use Rattle.records.specs.Answers.{number-of, outcome-of}
+use Rattle.records.specs.Outcomes.{refused, passed}
+use Rattle.records.specs.Records.{all-records}
+use Rattle.certificates.specs.Components.{Component, no-component}
+use Rattle.certificates.specs.Encoding.{component-records}
+use Rattle.checker.specs.Judge.{plain, component-refusal, components-refusal}
+use Rattle.checker.specs.Working.{Component-at, Component-fits, Component-judged, Components-from, record-count}
+use Rattle.checker.proofs.Positions.{next-component}
+use Rattle.checker.proofs.component.judge_components.Statement.{statement}
+use Rattle.checker.proofs.component.judge_components.Tie as tie
+
+-- the components from component i on are left to judge
+pub record Components-left (p : System) (cert : List ℕ) (all : List Component) (at i : ℕ) : Type 0 where
+  pub are : drop at (all-records cert) ≡ component-records i (drop i all)
+  pub number : components-refusal p (plain p) all ≡ components-refusal p (plain p) (drop i all)
+
+abbrev Inv-loop : tie.InvT-loop
+Inv-loop certificate components rules arities starts nodes marks at₀ i₀ at i =
+    (i ≤ components)
+    × ((p : System) (a : Components-from p certificate components rules arities starts nodes marks) → Components-left p certificate (a .all) at i)
+
+abbrev μ-loop : tie.MeasureT-loop
+μ-loop certificate components rules arities starts nodes marks at₀ i₀ at i = components - i
+
+-- what a component's answer tells of its number
+answer-refused : (b : Bool) (m n k : ℕ) → refused k ≡ cond b (passed m) (refused n) → (b ≡ false) × (k ≡ n)
+answer-refused true m n k e = let z : _≡_ {A = ℕ} 0 1 = cc in absurd (omega arith)
+answer-refused false m n k e = (refl, cc)
+
+answer-passed : (b : Bool) (m n k : ℕ) → passed k ≡ cond b (passed m) (refused n) → (b ≡ true) × (k ≡ m)
+answer-passed true m n k e = (refl, cc)
+answer-passed false m n k e = let z : _≡_ {A = ℕ} 0 1 = cc in absurd (omega arith)
+
+module _
+    {p : System} {cert : List ℕ} {components rules : ℕ} {ar ss ns ms : List ℕ} (a : Components-from p cert components rules ar ss ns ms) (at i : ℕ)
+    (left : Components-left p cert (a .all) at i) where
+  none-left : components ≤ i → 0 ≡ components-refusal p (plain p) (a .all)
+  unfolding components-refusal
+  none-left h = sym (left .number ∙ ap (components-refusal p (plain p)) (drop-of-length-le (a .all) {i = i} (omega (arith, a .counted))))
+
+  -- component i
+  module _ (h : i < components) where
+    abbrev c : Component
+    c = getD (a .all) i no-component
+
+    in-range : i < length (a .all)
+    in-range = omega (arith, a .counted)
+
+    fits : Component-fits p c
+    fits = a .fit i in-range
+
+    others : drop i (a .all) ≡ c ∷ drop (suc i) (a .all)
+    others = drop-cons (a .all) i no-component in-range
+
+    here : Component-at cert at c
+    here = record { i = i; others = drop (suc i) (a .all); are = left .are ∙ ap (component-records i) others }
+
+    number-here : components-refusal p (plain p) (a .all)
+        ≡ cond (eqb (component-refusal p (plain p) c) 0) (components-refusal p (plain p) (drop (suc i) (a .all))) (component-refusal p (plain p) c)
+    unfolding components-refusal
+    number-here = left .number ∙ ap (components-refusal p (plain p)) others
+
+    module _ {r : Answer} (judged : Component-fits p c → Component-at cert at c → Component-judged p c at r) where
+      refuses : (x : Refusal) → r ≡ Refused x → number-of x ≡ components-refusal p (plain p) (a .all)
+      unfolding Component-judged
+      refuses x e =
+          let n = component-refusal p (plain p) c in
+          let is = answer-refused (eqb n 0) (at + record-count c) n (number-of x) (ap outcome-of (sym e) ∙ judged fits here) in
+          is .1 ∙ sym (number-here ∙ rw (is .0))
+
+      passes : (next : ℕ) → r ≡ Passed next → Components-left p cert (a .all) next (i + 1)
+      unfolding Component-judged here
+      passes next e =
+          let n = component-refusal p (plain p) c in
+          let is = answer-passed (eqb n 0) (at + record-count c) n next (ap outcome-of (sym e) ∙ judged fits here) in
+          rw (is .1, add-one)
+          (record { are = next-component cert at c here; number = number-here ∙ rw (is .0) })
+
+requires : tie.Need-judge-component-requires Inv-loop μ-loop
+requires c κs =
+    let l = c .before .loop in
+    let start = c .before .before .before .before .before .before .before in
+    let p = start .pre .3 .0 in
+    let a = start .pre .3 .1 in
+    let h = c .loop-test .taken in
+    let left = l .inv .1 p a in
+    (start .pre .0, start .pre .1, start .pre .2, (p, a .symbols, _, a .stored, fits a (l .at) (l .i) left h, here a (l .at) (l .i) left h))
+
+returns : tie.Need-returns Inv-loop μ-loop
+returns c =
+    let called = c .before .before .before in
+    let l = called .before .before .loop in
+    λ p a.
+    refuses a (l .at) (l .i) (l .inv .1 p a) (called .before .loop-test .taken) (called .judge-component .ensures p (a .symbols) _ (a .stored)) _
+    (c .before .x .given .1)
+
+again : tie.Need-loop-again Inv-loop μ-loop
+again c =
+    let called = c .before .before .before in
+    let l = called .before .before .loop in (
+      omega arith,
+      λ p a.
+          passes a (l .at) (l .i) (l .inv .1 p a) (called .before .loop-test .taken) (called .judge-component .ensures p (a .symbols) _ (a .stored)) _
+          (c .before .next .given .1),
+    )
+
+pub judge-components-spec : {M : Type 1} → statement M
+judge-components-spec =
+    tie.close
+    (tie.spec
+    Inv-loop
+    μ-loop
+    (λ c. (omega arith, λ p a. record { are = a .are; number = refl }))
+    requires
+    (λ c. search needs)
+    returns
+    (λ c. search needs)
+    (λ c. omega arith)
+    (λ c. omega arith)
+    again
+    (λ c. let l = c .before .loop in λ p a. none-left a (l .at) (l .i) (l .inv .1 p a) (c .loop-test .left)))

@@ -1,0 +1,208 @@
+-- `checker::weighing::judge_pairs` meets its contract. The loop's invariant: the pairs from pair i on are left to judge.
+use mathlib.Core.Path.{_≡_, _∙_}
+use mathlib.Core.Bool.{Bool, true, false}
+use mathlib.Core.Logic.{⊎-elim}
+use mathlib.Core.List.{List, [], _∷_}
+use Prim.Native.Nat.{ℕ, _+_, _*_, _-_, _/_, _≤_, _<_}
+use native.Mathlib.Numerals.{add-one}
+use native.Mathlib.Omega.{arith}
+use borrow.Author.Needs.{needs}
+use lib.ListN.{length, getD, drop, drop-of-length-le}
+use lib.Seq.{drop-cons}
+use Rattle.rewriting.specs.Terms.{System}
+use Rattle.rewriting.specs.Pairs.{Pair, is-pair}
+use Rattle.records.specs.declared.Record.{Record}
+use Rattle.records.specs.Records.{record-at}
+use Rattle.packs.specs.Stored.{Stored}
+use Rattle.pairs.specs.Listing.{a-pair, pair-record}
+use Rattle.weights.specs.declared.Verdict.{Verdict}
+use Rattle.weights.specs.declared.Verdict.the-variants.{Over, Fails, Holds}
+use Rattle.weights.specs.Polynomials.{Weight, Weighting}
+use Rattle.weights.specs.Judging.{call-over, call-falls}
+use Rattle.weights.specs.Working.{Table-is, Applied, verdict}
+use Rattle.checker.specs.Judge.{call, calls}
+use Rattle.checker.specs.Working.{Pairs-at, All-pairs}
+use Rattle.checker.proofs.FromStore.{weighting, pair-in-rules, left-applied, right-applied, call-answer}
+use Rattle.checker.proofs.Positions.{pair-here}
+use Rattle.checker.proofs.Verdicts.{To-judge, Found, calls-hold, calls-asked, none-judged, some-failed, none-failed, one-over, one-fails, one-holds}
+use Rattle.checker.proofs.weighing.judge_pairs.Statement.{statement}
+use Rattle.checker.proofs.weighing.judge_pairs.Tie as tie
+
+-- pairs from pair i on are left to judge
+abbrev Pairs-left : System → List Pair → (weights marked : List Weight) → (i : ℕ) → (failed : Bool) → Type 0
+Pairs-left p qs ws vs i failed = To-judge (call-over (weighting ws vs)) (calls-hold (weighting ws vs)) (calls p qs) (calls p (drop i qs)) failed
+
+abbrev Inv-loop : tie.InvT-loop
+Inv-loop certificate from count arities marked table starts nodes marks rules failed₀ i₀ failed i =
+    (i ≤ count)
+    × ((p : System) (symbols : ℕ) (qs : List Pair) (ws vs : List Weight) → Stored p symbols rules arities starts nodes marks → All-pairs p qs →
+    Pairs-at certificate from qs → length qs ≡ count → Table-is table ws → Table-is marked vs → Pairs-left p qs ws vs i failed)
+
+abbrev μ-loop : tie.MeasureT-loop
+μ-loop certificate from count arities marked table starts nodes marks rules failed₀ i₀ failed i = count - i
+
+-- the record of pair i
+module _ {cert : List ℕ} {from : ℕ} {qs : List Pair} (there : Pairs-at cert from qs) (i : ℕ) (h : i < length qs) where
+  abbrev q : Pair
+  q = getD qs i (a-pair 0 0)
+
+  within : from + i < length cert / 8
+  within = pair-here cert from qs there i h .0
+
+  module _ {r : Record} (read : r ≡ record-at cert (8 * (from + i))) where
+    reads-pair : r ≡ pair-record q
+    reads-pair = read ∙ pair-here cert from qs there i h .1
+
+    module _ {p : System} {symbols rules : ℕ} {ar ss ns ms : List ℕ} (s : Stored p symbols rules ar ss ns ms) (are : All-pairs p qs) where
+      is : is-pair p q ≡ true
+      unfolding All-pairs
+      is = are i h
+
+      in-rules : r .a < rules
+      unfolding pair-record
+      in-rules = rw reads-pair (pair-in-rules s q is)
+
+      left-there : Applied ar ns (getD ss (2 * r .a) 0)
+      unfolding pair-record
+      left-there = rw reads-pair (left-applied s q is)
+
+      right-there : Applied ar ns (getD ss (2 * r .a + 1) 0 + r .b)
+      unfolding pair-record
+      right-there = rw reads-pair (right-applied s q is)
+
+      -- the pair is judged
+      module _ (ws vs : List Weight) {x : Verdict}
+          (answer :
+          (l : Applied ar ns (getD ss (2 * r .a) 0)) (m : Applied ar ns (getD ss (2 * r .a + 1) 0 + r .b)) →
+          x ≡ verdict (call-over (weighting ws vs) (record { left = l .side .term; right = m .side .term })) (call-falls (weighting ws vs) (record { left = l .side .term; right = m .side .term }))) where
+        abbrev w : Weighting
+        w = weighting ws vs
+
+        said : x ≡ verdict (call-over w (call p q)) (call-falls w (call p q))
+        unfolding pair-record
+        said = call-answer s q is ws vs (rw reads-pair at answer)
+
+        module _ {failed : Bool} (left : Pairs-left p qs ws vs i failed) where
+          pair-left : To-judge (call-over w) (calls-hold w) (calls p qs) (call p q ∷ calls p (drop (i + 1) qs)) failed
+          unfolding calls
+          pair-left = rw add-one (rw (drop-cons qs i (a-pair 0 0) h) at left)
+
+          pair-over-limit : x ≡ Over → Found (call-over w) (calls-hold w) (calls p qs) Over
+          pair-over-limit = one-over (calls-asked w) pair-left said
+
+          pair-fails : x ≡ Fails → Pairs-left p qs ws vs (i + 1) true
+          pair-fails = one-fails (calls-asked w) pair-left said
+
+          pair-holds : x ≡ Holds → Pairs-left p qs ws vs (i + 1) failed
+          pair-holds = one-holds (calls-asked w) pair-left said
+
+-- at the end
+module _ (p : System) (qs : List Pair) (ws vs : List Weight) (i : ℕ) {failed : Bool} (left : Pairs-left p qs ws vs i failed) (h : length qs ≤ i) where
+  none-left : To-judge (call-over (weighting ws vs)) (calls-hold (weighting ws vs)) (calls p qs) [] failed
+  unfolding calls
+  none-left = rw (drop-of-length-le qs {i = i} h) at left
+
+  fails : failed ≡ true → Found (call-over (weighting ws vs)) (calls-hold (weighting ws vs)) (calls p qs) Fails
+  fails = some-failed (calls-asked (weighting ws vs)) none-left
+
+  holds : failed ≡ false → Found (call-over (weighting ws vs)) (calls-hold (weighting ws vs)) (calls p qs) Holds
+  holds = none-failed (calls-asked (weighting ws vs)) none-left
+
+abbrev start : tie.In-loop Inv-loop μ-loop → tie.Start Inv-loop μ-loop
+start turn = turn .before .before .before .before .before .before .before .before .before
+
+-- What the contract asks for is `known`: a system, its symbols, pairs; that the system is stored, that they are pairs of it, where they
+-- stand, and their count. In a turn there is a pair i of them; its record is there, and names a rule.
+there-is : (turn : tie.In-loop Inv-loop μ-loop) → turn .before .loop .i < length (start turn .pre .5 .2)
+there-is turn = omega (arith, start turn .pre .5 .6, turn .loop-test .taken)
+
+its-record : (turn : tie.In-loop Inv-loop μ-loop) → start turn .args .from + turn .before .loop .i < length (start turn .args .certificate .now) / 8
+its-record turn = within (start turn .pre .5 .5) (turn .before .loop .i) (there-is turn)
+
+its-rule : (c : tie.After-record-at Inv-loop μ-loop) → c .record-at .result .a < start (c .before) .args .rules
+its-rule c =
+    let turn = c .before in
+    let known = start turn .pre .5 in
+    in-rules (known .5) (turn .before .loop .i) (there-is turn) (c .record-at .ensures) (known .3) (known .4)
+
+requires : tie.Need-judge-call-requires Inv-loop μ-loop
+requires c κs =
+    let read = c .before .before .before .before in
+    let turn = read .before in
+    let i = turn .before .loop .i in
+    let pre = start turn .pre in
+    let known = pre .5 in (
+      pre .2 .arities-long,
+      pre .3,
+      pre .4,
+      pre .2 .nodes-long,
+      left-there (known .5) i (there-is turn) (read .record-at .ensures) (known .3) (known .4),
+      right-there (known .5) i (there-is turn) (read .record-at .ensures) (known .3) (known .4),
+    )
+
+returns : tie.Need-returns Inv-loop μ-loop
+returns c =
+    let called = c .before .before in
+    let read = called .before .before .before .before .before in
+    let turn = read .before in
+    let l = turn .before .loop in
+    λ p symbols qs ws vs s are there long t u.
+    pair-over-limit there (l .i) (omega (arith, turn .loop-test .taken)) (read .record-at .ensures) s are ws vs
+    (λ a b. called .judge-call .ensures a b ws vs t u)
+    (l .inv .1 p symbols qs ws vs s are there long t u)
+    (c .enum-told .given .1)
+
+again : tie.Need-loop-again Inv-loop μ-loop
+again c =
+    let called = c .before in
+    let read = called .before .before .before .before .before in
+    let turn = read .before in
+    let l = turn .before .loop in (
+      omega arith,
+      λ p symbols qs ws vs s are there long t u.
+          let h : l .i < length qs = omega (arith, turn .loop-test .taken) in
+          let left = l .inv .1 p symbols qs ws vs s are there long t u in
+          ⊎-elim
+          (λ z. rw (z .2) (pair-fails there (l .i) h (read .record-at .ensures) s are ws vs (λ a b. called .judge-call .ensures a b ws vs t u) left (z .1 .given .1)))
+          (λ z. rw (z .2) (pair-holds there (l .i) h (read .record-at .ensures) s are ws vs (λ a b. called .judge-call .ensures a b ws vs t u) left (z .1 .given .1)))
+          (c .match .came),
+    )
+
+pub judge-pairs-spec : {M : Type 1} → statement M
+judge-pairs-spec =
+    tie.close
+    (tie.spec
+    Inv-loop
+    μ-loop
+    (λ c. (omega arith, λ p symbols qs ws vs s are there long t u. none-judged _ _ _))
+    (λ c. omega (arith, its-record c))
+    (λ c. omega (arith, its-record c))
+    (λ c κs. omega (arith, its-record c))
+    (λ c. search needs)
+    (λ c. search needs)
+    (λ c. search needs)
+    (λ c. omega (arith, its-rule (c .before .before)))
+    (λ c. omega (arith, c .shared-slice-known8 .given (2 * c .before .before .record-at .result .a)))
+    (λ c. omega (arith, its-rule (c .before .before)))
+    (λ c. omega (arith, its-rule (c .before .before)))
+    (λ c. omega (arith, its-rule (c .before .before)))
+    (λ c. omega (arith, its-rule (c .before .before .before)))
+    (λ c. omega (arith, c .shared-slice-known9 .given (2 * c .before .before .before .record-at .result .a + 1)))
+    (λ c. search needs)
+    (λ c. omega (arith, c .before .shared-slice-known9 .given (2 * c .before .before .before .before .record-at .result .a + 1)))
+    requires
+    (λ c. search needs)
+    returns
+    (λ c. search needs)
+    (λ c. search needs)
+    (λ c. omega arith)
+    (λ c. omega arith)
+    again
+    (λ c.
+    let l = c .before .before .loop in
+    λ p symbols qs ws vs s are there long t u.
+    fails p qs ws vs (l .i) (l .inv .1 p symbols qs ws vs s are there long t u) (omega (arith, c .before .loop-test .left)) (c .if1 .taken))
+    (λ c.
+    let l = c .before .before .loop in
+    λ p symbols qs ws vs s are there long t u.
+    holds p qs ws vs (l .i) (l .inv .1 p symbols qs ws vs s are there long t u) (omega (arith, c .before .loop-test .left)) (c .if1 .left)))

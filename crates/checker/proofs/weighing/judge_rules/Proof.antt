@@ -1,0 +1,134 @@
+-- `checker::weighing::judge_rules` meets its contract. The loop's invariant: the rules from rule i on are left to judge.
+use mathlib.Core.Path.{_≡_}
+use mathlib.Core.Bool.{Bool, true, false, not}
+use mathlib.Core.Logic.{⊎-elim}
+use mathlib.Core.List.{List, [], _∷_}
+use Prim.Native.Nat.{ℕ, _+_, _*_, _-_, _≤_, _<_}
+use native.Mathlib.Numerals.{add-one}
+use native.Mathlib.Omega.{arith}
+use borrow.Author.Needs.{needs}
+use lib.ListN.{getD, drop, drop-of-length-le}
+use lib.Seq.{drop-cons}
+use Rattle.rewriting.specs.Terms.{System, rule, no-rule}
+use Rattle.packs.specs.Stored.{Stored}
+use Rattle.weights.specs.declared.Verdict.{Verdict}
+use Rattle.weights.specs.declared.Verdict.the-variants.{Over, Fails, Holds}
+use Rattle.weights.specs.Polynomials.{Weight, Weighting}
+use Rattle.weights.specs.Judging.{rule-over, rule-rises}
+use Rattle.weights.specs.Working.{Table-is, Weighable, verdict}
+use Rattle.checker.proofs.FromStore.{weighting, left-weighable, right-weighable, rule-answer}
+use Rattle.checker.proofs.Verdicts.{To-judge, Found, rules-hold, rules-asked, none-judged, some-failed, none-failed, one-over, one-fails, one-holds}
+use Rattle.checker.proofs.weighing.judge_rules.Statement.{statement}
+use Rattle.checker.proofs.weighing.judge_rules.Tie as tie
+
+-- rules from rule i on are left to judge
+abbrev Rules-left : System → (weights marked : List Weight) → (i : ℕ) → (failed : Bool) → Type 0
+Rules-left p ws vs i failed = To-judge (rule-over (weighting ws vs)) (rules-hold (weighting ws vs)) (p .rules) (drop i (p .rules)) failed
+
+abbrev Inv-loop : tie.InvT-loop
+Inv-loop arities table starts nodes marks rules failed₀ i₀ failed i =
+    (i ≤ rules)
+    × ((p : System) (symbols : ℕ) (ws vs : List Weight) → Stored p symbols rules arities starts nodes marks → Table-is table ws → Rules-left p ws vs i failed)
+
+abbrev μ-loop : tie.MeasureT-loop
+μ-loop arities table starts nodes marks rules failed₀ i₀ failed i = rules - i
+
+module _
+    {p : System} {symbols rules : ℕ} {ar ss ns ms : List ℕ} (s : Stored p symbols rules ar ss ns ms) (ws vs : List Weight) (i : ℕ) {failed : Bool}
+    (left : Rules-left p ws vs i failed) where
+  abbrev w : Weighting
+  w = weighting ws vs
+
+  -- at the end
+  module _ (h : rules ≤ i) where
+    none-left : To-judge (rule-over w) (rules-hold w) (p .rules) [] failed
+    none-left = rw (drop-of-length-le (p .rules) {i = i} (omega (arith, s .rules-are))) at left
+
+    fails : failed ≡ true → Found (rule-over w) (rules-hold w) (p .rules) Fails
+    fails = some-failed (rules-asked w) none-left
+
+    holds : failed ≡ false → Found (rule-over w) (rules-hold w) (p .rules) Holds
+    holds = none-failed (rules-asked w) none-left
+
+  -- rule i is judged
+  module _ (h : i < rules) {x : Verdict}
+      (answer :
+      (l : Weighable ar ns (getD ss (2 * i) 0) 32) (m : Weighable ar ns (getD ss (2 * i + 1) 0) 32) →
+      x ≡ verdict (rule-over w (record { left = l .term; right = m .term })) (not (rule-rises w (record { left = l .term; right = m .term })))) where
+    rule-left : To-judge (rule-over w) (rules-hold w) (p .rules) (rule p i ∷ drop (i + 1) (p .rules)) failed
+    unfolding rule
+    rule-left = rw add-one (rw (drop-cons (p .rules) i no-rule (omega (arith, s .rules-are))) at left)
+
+    is : x ≡ verdict (rule-over w (rule p i)) (not (rule-rises w (rule p i)))
+    is = rule-answer s i h ws vs answer
+
+    rule-over-limit : x ≡ Over → Found (rule-over w) (rules-hold w) (p .rules) Over
+    rule-over-limit = one-over (rules-asked w) rule-left is
+
+    rule-fails : x ≡ Fails → Rules-left p ws vs (i + 1) true
+    rule-fails = one-fails (rules-asked w) rule-left is
+
+    rule-holds : x ≡ Holds → Rules-left p ws vs (i + 1) failed
+    rule-holds = one-holds (rules-asked w) rule-left is
+
+requires : tie.Need-judge-rule-requires Inv-loop μ-loop
+requires c κs =
+    let i = c .before .before .before .loop .i in
+    let start = c .before .before .before .before .before .before .before .before .before in
+    let kept = start .pre .0 in
+    let s = start .pre .2 .2 in
+    let h = c .before .before .loop-test .taken in (
+      kept .arities-long,
+      start .pre .1,
+      kept .nodes-long,
+      left-weighable s i h,
+      right-weighable s i h,
+    )
+
+returns : tie.Need-returns Inv-loop μ-loop
+returns c =
+    let turn = c .before .before .before .before .before in
+    let l = turn .before .loop in
+    λ p symbols ws vs s t.
+    rule-over-limit s ws vs (l .i) (l .inv .1 p symbols ws vs s t) (turn .loop-test .taken)
+    (λ a b. c .before .before .judge-rule .ensures a b ws vs t)
+    (c .enum-told .given .1)
+
+again : tie.Need-loop-again Inv-loop μ-loop
+again c =
+    let turn = c .before .before .before .before in
+    let l = turn .before .loop in (
+      omega arith,
+      λ p symbols ws vs s t.
+          ⊎-elim
+          (λ z. rw (z .2) (rule-fails s ws vs (l .i) (l .inv .1 p symbols ws vs s t) (turn .loop-test .taken) (λ a b. c .before .judge-rule .ensures a b ws vs t) (z .1 .given .1)))
+          (λ z. rw (z .2) (rule-holds s ws vs (l .i) (l .inv .1 p symbols ws vs s t) (turn .loop-test .taken) (λ a b. c .before .judge-rule .ensures a b ws vs t) (z .1 .given .1)))
+          (c .match .came),
+    )
+
+pub judge-rules-spec : {M : Type 1} → statement M
+judge-rules-spec =
+    tie.close
+    (tie.spec
+    Inv-loop
+    μ-loop
+    (λ c. (omega arith, λ p symbols ws vs s t. none-judged _ _ _))
+    (λ c. omega arith)
+    (λ c. omega arith)
+    (λ c. omega arith)
+    (λ c. omega (arith, c .shared-slice-known6 .given (2 * c .before .before .loop .i)))
+    (λ c. omega arith)
+    (λ c. omega arith)
+    (λ c. omega arith)
+    (λ c. omega arith)
+    (λ c. omega (arith, c .shared-slice-known7 .given (2 * c .before .before .before .loop .i + 1)))
+    requires
+    (λ c. search needs)
+    returns
+    (λ c. search needs)
+    (λ c. search needs)
+    (λ c. omega arith)
+    (λ c. omega arith)
+    again
+    (λ c. let l = c .before .before .loop in λ p symbols ws vs s t. fails s ws vs (l .i) (l .inv .1 p symbols ws vs s t) (c .before .loop-test .left) (c .if1 .taken))
+    (λ c. let l = c .before .before .loop in λ p symbols ws vs s t. holds s ws vs (l .i) (l .inv .1 p symbols ws vs s t) (c .before .loop-test .left) (c .if1 .left)))

@@ -1,0 +1,146 @@
+-- How the code judges: by the component that each pair's slot names, and by dense tables of weights. The contracts between our
+-- own functions speak of it; no promise to a user does.
+use mathlib.Core.Path.{_≡_}
+use mathlib.Core.Bool.{Bool, true, false, _&&_, _||_, not, cond}
+use mathlib.Core.List.{List, [], _∷_, _++_, map}
+use Prim.Native.Nat.{ℕ, zero, suc, _+_, _*_, _≤_, _<_, min}
+use lib.Dec.{ltb, eqb}
+use lib.ListN.{length, getD, drop, replicate}
+use Rattle.rewriting.specs.Terms.{System}
+use Rattle.rewriting.specs.Pairs.{Pair, is-pair}
+use Rattle.records.specs.declared.Record.{Record}
+use Rattle.records.specs.declared.Answer.{Answer}
+use Rattle.records.specs.Outcomes.{Outcome, refused, passed, refusal}
+use Rattle.records.specs.Records.{all-records}
+use Rattle.records.specs.Rising.{rising}
+use Rattle.records.specs.Answers.{outcome-of}
+use Rattle.packs.specs.Stored.{Stored}
+use Rattle.pairs.specs.Listing.{a-pair, pair-records}
+use Rattle.pairs.specs.Arcs.{arc}
+use Rattle.pairs.specs.Walking.{Laid}
+use Rattle.weights.specs.Polynomials.{Weight, Weighting}
+use Rattle.weights.specs.declared.Verdict.{Verdict}
+use Rattle.weights.specs.declared.Verdict.the-variants.{Over, Fails, Holds}
+use Rattle.certificates.specs.Components.{Component, no-component}
+use Rattle.certificates.specs.Reading.{read-certificate}
+use Rattle.certificates.specs.Encoding.{weight-records, component-records}
+use Rattle.certificates.specs.Working.{Owned, doubled, pairs-in}
+use Rattle.checker.specs.Judge.{plain, component-refusal}
+
+-- the arrays in which a pack is kept have their lengths, and its sides lie in them
+pub record Kept-pack (rules : ℕ) (arities starts nodes marks : List ℕ) : Type 0 where
+  pub laid : Laid starts nodes rules
+  pub arities-long : length arities ≡ 64
+  pub marks-long : length marks ≡ 64
+  pub nodes-long : length nodes ≤ 65536
+
+-- a pair of the system kept there, its right side at `right`
+pub record Pair-kept (p : System) (q : Pair) (rules : ℕ) (arities starts nodes marks : List ℕ) (right : ℕ) : Type 0 where
+  pub symbols : ℕ
+  pub stored : Stored p symbols rules arities starts nodes marks
+  pub is : is-pair p q ≡ true
+  pub at-right : right ≡ getD starts (2 * q .at-rule + 1) 0 + q .place
+
+-- a certificate that was read, with what its reading found
+pub record Judgeable (p : System) (certificate : List ℕ) (components : ℕ) (twice : Bool) (rules : ℕ) (arities starts nodes marks owners : List ℕ) : Type 0 where
+  pub symbols : ℕ
+  pub stored : Stored p symbols rules arities starts nodes marks
+  pub all : List Component
+  pub read : read-certificate p certificate ≡ passed all
+  pub counted : components ≡ length all
+  pub doubled-is : twice ≡ doubled (pairs-in all)
+  pub owned : Owned all owners
+
+-- what judging answers: the number, 0 for none
+unfoldable pub Judged-as : (number : ℕ) → Answer → Type 0
+Judged-as n r = refusal (outcome-of r) ≡ n
+
+-- the number of the component that a pair's slot names, plus one
+unfoldable pub owner : (owners : List ℕ) → Pair → ℕ
+owner os q = getD os (32 * q .at-rule + q .place) 0
+
+-- 8: every pair's slot names one
+unfoldable pub all-owned : (owners : List ℕ) → List Pair → Bool
+all-owned os [] = true
+all-owned os (q ∷ qs) = ltb 0 (owner os q) && all-owned os qs
+
+-- 9: the lowest component among some pairs, and whether an arc leads from a pair to a rule with a pair in a lower one
+unfoldable pub lowest : (owners : List ℕ) → List Pair → ℕ
+lowest os [] = 65535
+lowest os (q ∷ qs) = min (owner os q) (lowest os qs)
+
+unfoldable pub back-to : System → (lows : List ℕ) → (own : ℕ) → Pair → (rules : ℕ) → Bool
+back-to p ls own q zero = false
+back-to p ls own q (suc s) = back-to p ls own q s || (ltb (getD ls s 0) own && arc p q (a-pair s 0))
+
+unfoldable pub any-back : System → (lows owners : List ℕ) → (rules : ℕ) → List Pair → Bool
+any-back p ls os n [] = false
+any-back p ls os n (q ∷ qs) = back-to p ls (owner os q) q n || any-back p ls os n qs
+
+-- THE RECORDS OF A COMPONENT stand from a record on
+pub record Component-at (certificate : List ℕ) (at : ℕ) (c : Component) : Type 0 where
+  pub i : ℕ
+  pub others : List Component
+  pub are : drop at (all-records certificate) ≡ component-records i (c ∷ others)
+
+-- how many they are
+unfoldable pub weight-count : List Weighting → ℕ
+weight-count [] = 0
+weight-count (w ∷ ws) = length (w .weights) + length (w .marked) + weight-count ws
+
+unfoldable pub record-count : Component → ℕ
+record-count c = 1 + length (c .pairs) + weight-count (c .weightings)
+
+-- what `judge_component` answers: the record after the component, or its refusal
+unfoldable pub Component-judged : System → Component → (at : ℕ) → Answer → Type 0
+Component-judged p c at r =
+    outcome-of r ≡ cond (eqb (component-refusal p (plain p) c) 0) (passed (at + record-count c)) (refused (component-refusal p (plain p) c))
+
+-- weights that can be written: rising, each at a place of the table
+pub record Fillable (ws : List Weight) : Type 0 where
+  pub rise : rising (λ x. x .symbol) (λ x. x .place) ws ≡ true
+  pub symbols-small : (k : ℕ) → k < length ws → getD ws k (record { symbol = 0; place = 0; value = 0 }) .symbol < 64
+  pub places-small : (k : ℕ) → k < length ws → getD ws k (record { symbol = 0; place = 0; value = 0 }) .place ≤ 8
+
+-- weight records of a kind stand from a record on, and after them another kind or the end
+pub record Weights-at (certificate : List ℕ) (from : ℕ) (kind : ℕ) (ws : List Weight) : Type 0 where
+  pub rest : List Record
+  pub are : drop from (all-records certificate) ≡ weight-records kind ws ++ rest
+  pub other-kind : (r : Record) (rs : List Record) → rest ≡ r ∷ rs → r .kind ≡ kind → ⊥
+  pub fillable : Fillable ws
+
+-- P records stand from a record on
+pub record Pairs-at (certificate : List ℕ) (from : ℕ) (qs : List Pair) : Type 0 where
+  pub rest : List Record
+  pub are : drop from (all-records certificate) ≡ pair-records qs ++ rest
+
+-- every one of them is a pair
+unfoldable pub All-pairs : System → List Pair → Type 0
+All-pairs p qs = (k : ℕ) → k < length qs → is-pair p (getD qs k (a-pair 0 0)) ≡ true
+
+-- what judging a component rests on, of the reader's checks
+pub record Component-fits (p : System) (c : Component) : Type 0 where
+  pub few : length (c .weightings) ≤ 1
+  pub pairs-few : length (c .pairs) ≤ 2048
+  pub alone : length (c .weightings) ≡ 0 → length (c .pairs) ≡ 1
+  pub are-pairs : All-pairs p (c .pairs)
+  pub fillable : (w : Weighting) (ws : List Weighting) → c .weightings ≡ w ∷ ws → Fillable (w .weights) × Fillable (w .marked)
+
+-- the first in the paper's order: 11 for either, 12 for the rules, 13 for the pairs; else the record after the component
+unfoldable pub chosen : (rules calls : Verdict) → (next : ℕ) → Outcome ℕ
+chosen Over c n = refused 11
+chosen Fails Over n = refused 11
+chosen Fails Fails n = refused 12
+chosen Fails Holds n = refused 12
+chosen Holds Over n = refused 11
+chosen Holds Fails n = refused 13
+chosen Holds Holds n = passed n
+
+-- all components of a certificate that was read
+pub record Components-from (p : System) (certificate : List ℕ) (components rules : ℕ) (arities starts nodes marks : List ℕ) : Type 0 where
+  pub symbols : ℕ
+  pub stored : Stored p symbols rules arities starts nodes marks
+  pub all : List Component
+  pub counted : components ≡ length all
+  pub are : all-records certificate ≡ component-records 0 all
+  pub fit : (i : ℕ) → i < length all → Component-fits p (getD all i no-component)
