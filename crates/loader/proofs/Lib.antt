@@ -1,0 +1,2 @@
+-- What the loader's functions know of a file that was read.
+pub mod FileBytes

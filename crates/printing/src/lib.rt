@@ -1,0 +1,51 @@
+// What the programs print.
+ghost use Prim.Native.Nat.{_<_};
+use libc::STDOUT_FILENO;
+use records::Refusal;
+
+// `refused` and the number.
+pub fn refused(x: Refusal) {
+    io::write_all(STDOUT_FILENO, b"refused ");
+    io::print_decimal(STDOUT_FILENO, records::number(x) as u64);
+    io::write_all(STDOUT_FILENO, b"\n");
+}
+
+fn wide(x: u8) -> u64
+    ensures { λ r. ⌜ r < 256 ⌝ }
+{
+    x as u64
+}
+
+// The number at bytes i and i + 1 of the list, low byte first; 0 past its end.
+fn two(list: &[u8], i: usize) -> u64 {
+    if list.len() < 2 {
+        return 0;
+    }
+    if list.len() - 2 < i {
+        return 0;
+    }
+    wide(list[i]) + 256 * wide(list[i + 1])
+}
+
+// One pair: rule, space, place.
+fn pair(list: &[u8], at: usize) {
+    if 65536 < at {
+        return;
+    }
+    io::print_decimal(STDOUT_FILENO, two(list, at + 2));
+    io::write_all(STDOUT_FILENO, b" ");
+    io::print_decimal(STDOUT_FILENO, two(list, at + 4));
+    io::write_all(STDOUT_FILENO, b"\n");
+}
+
+// A line a pair, from the first n records of a listing.
+pub fn pairs(list: &[u8], n: usize) {
+    let mut i = 0;
+    while i < n {
+        if 8192 <= i {
+            return;
+        }
+        pair(list, 8 * i);
+        i = i + 1;
+    }
+}

@@ -1,0 +1,2 @@
+-- What the public entries answer.
+pub mod Entries

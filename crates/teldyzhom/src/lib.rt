@@ -1,0 +1,153 @@
+// The loader's three entries: the check, the listing and the arc question; and the same as C functions.
+mod c;
+
+use certificates::CertificateRead;
+use packs::PackRead;
+use pairs::ArcAnswer;
+use records::Answer;
+use records::Refusal;
+ghost use mathlib.Core.Path.{_≡_};
+ghost use lib.ListN.{length};
+ghost use Rattle.rewriting.specs.Steps.{full};
+ghost use Rattle.rewriting.specs.Chains.{Terminating, Chains-terminating};
+ghost use Rattle.packs.specs.Reading.{pack-in};
+ghost use Rattle.pairs.specs.Listing.{a-pair};
+ghost use Rattle.pairs.specs.Answers.{listing, arc-question, buffer-after};
+ghost use Rattle.pairs.specs.Says.{Listed-as, Arc-as};
+ghost use Rattle.checker.specs.Check.{check};
+ghost use Rattle.teldyzhom.specs.Entries.{checked-number};
+
+// What the check answers.
+pub enum Checked {
+    Accepted,
+    Refused(Refusal),
+}
+
+// Checks a certificate for a pack: accepted, or the first refusal, 1 to 13. Accepted means that all chains of the pack's
+// dependency pairs end and that all derivations from all terms over its symbols end.
+pub fn check_certificate(pack: &[u8], certificate: &[u8]) -> Checked
+    ensures says { λ r. ⌜ checked-number r ≡ check (now (pack .entry)) (now (certificate .entry)) ⌝ }
+    ensures ends { λ r. ⌜ (r ≡ Checked.Accepted → Chains-terminating (pack-in (now (pack .entry))) full × Terminating (pack-in (now (pack .entry))) full) ⌝ }
+{
+    if 24576 < certificate.len() {
+        return Checked::Refused(Refusal::CutFile);
+    }
+    if certificate.len() % 8 != 0 {
+        return Checked::Refused(Refusal::CutFile);
+    }
+    let mut arities = [0u8; 64];
+    let mut starts = [0u16; 129];
+    let mut nodes = [0u8; 4096];
+    let mut marks = [0u8; 64];
+    let mut owners = [0u16; 2048];
+    match packs::read_pack(pack, &mut arities, &mut starts, &mut nodes, &mut marks) {
+        PackRead::Refused(x) => Checked::Refused(x),
+        PackRead::Read(c) => {
+            let symbols = c.symbols;
+            let rules = c.rules;
+            match certificates::read_certificate(
+                certificate,
+                symbols,
+                rules,
+                &arities,
+                &starts,
+                &nodes,
+                &marks,
+                &mut owners,
+            ) {
+                CertificateRead::Refused(x) => Checked::Refused(x),
+                CertificateRead::Read(f) => {
+                    match checker::judge(
+                        certificate,
+                        f.components,
+                        f.twice,
+                        rules,
+                        &arities,
+                        &starts,
+                        &nodes,
+                        &marks,
+                        &owners,
+                    ) {
+                        Answer::Refused(x) => Checked::Refused(x),
+                        Answer::Passed(_) => Checked::Accepted,
+                    }
+                }
+            }
+        }
+    }
+}
+
+// Lists the pairs of a pack as P records in the caller's buffer, rising. Answers how many there are; a refusal leaves the
+// buffer untouched, and no byte after the records changes.
+pub fn list_pairs(pack: &[u8], list: &mut [u8]) -> Answer
+    ensures says { λ r. ⌜ Listed-as (listing (now (pack .entry)) (length (now (list .entry)))) r ⌝ }
+    ensures leaves { λ _. ⌜ now (list .exit) ≡ buffer-after (listing (now (pack .entry)) (length (now (list .entry)))) (now (list .entry)) ⌝ }
+{
+    let mut arities = [0u8; 64];
+    let mut starts = [0u16; 129];
+    let mut nodes = [0u8; 4096];
+    let mut marks = [0u8; 64];
+    match packs::read_pack(pack, &mut arities, &mut starts, &mut nodes, &mut marks) {
+        PackRead::Refused(x) => Answer::Refused(x),
+        PackRead::Read(c) => {
+            let rules = c.rules;
+            let n = pairs::listing::count_pairs(&starts, &nodes, &marks, rules);
+            if list.len() / 8 < n {
+                return Answer::Refused(Refusal::ShortList);
+            }
+            pairs::listing::write_pairs(list, &starts, &nodes, &marks, rules);
+            Answer::Passed(n)
+        }
+    }
+}
+
+// Says whether an arc runs from one pair of a pack to another.
+pub fn arc_runs(pack: &[u8], rule: u32, place: u32, other_rule: u32, other_place: u32) -> ArcAnswer
+    ensures { λ r. ⌜ Arc-as (arc-question (now (pack .entry)) (a-pair rule place) (a-pair «other_rule» «other_place»)) r ⌝ }
+{
+    let mut arities = [0u8; 64];
+    let mut starts = [0u16; 129];
+    let mut nodes = [0u8; 4096];
+    let mut marks = [0u8; 64];
+    match packs::read_pack(pack, &mut arities, &mut starts, &mut nodes, &mut marks) {
+        PackRead::Refused(x) => ArcAnswer::Refused(x),
+        PackRead::Read(c) => {
+            let rules = c.rules;
+            match pairs::arcs::place_of(
+                &starts,
+                &nodes,
+                &marks,
+                rules,
+                rule as usize,
+                place as usize,
+            ) {
+                Answer::Refused(x) => ArcAnswer::Refused(x),
+                Answer::Passed(right) => {
+                    match pairs::arcs::place_of(
+                        &starts,
+                        &nodes,
+                        &marks,
+                        rules,
+                        other_rule as usize,
+                        other_place as usize,
+                    ) {
+                        Answer::Refused(x) => ArcAnswer::Refused(x),
+                        Answer::Passed(_) => {
+                            if pairs::arcs::arc_from(
+                                &arities,
+                                &starts,
+                                &nodes,
+                                &marks,
+                                right,
+                                other_rule as usize,
+                            ) {
+                                return ArcAnswer::Yes;
+                            }
+                            ArcAnswer::No
+                        }
+                    }
+                }
+            }
+        }
+    }
+}
