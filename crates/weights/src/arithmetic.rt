@@ -98,7 +98,7 @@ pub fn greater(x: Polynomial, y: Polynomial) -> bool
     if x.constant <= y.constant {
         return false;
     }
-    let xs = x.coefficients;
-    let ys = y.coefficients;
-    each_at_least(xs, ys)
+    let left = x.coefficients;
+    let right = y.coefficients;
+    each_at_least(left, right)
 }
