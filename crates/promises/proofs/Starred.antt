@@ -8,7 +8,7 @@ use Rattle.packs.specs.Encoding.{pack-bytes}
 use Rattle.certificates.specs.Encoding.{certificate-bytes}
 use Rattle.checker.specs.Check.{check}
 use Rattle.promises.proofs.Computed.{computed}
-use Rattle.promises.specs.Examples.{Case, starred, division, division-shown}
+use Rattle.promises.specs.Examples.{Case, starred, division, division-shown, shrinking, shrinking-pairs}
 
 abbrev number-given : Case → ℕ
 number-given c = check (pack-bytes (c .pack)) (certificate-bytes (c .certificate))
@@ -28,3 +28,8 @@ division-sizes = (refl, refl)
 pub division-pairs : pairs division ≡ a-pair 1 0 ∷ a-pair 3 1 ∷ a-pair 3 2 ∷ []
 unfolding computed
 division-pairs = refl
+
+-- a pair whose right side is a proper subterm of its left side is listed too
+pub shrinking-listed : pairs shrinking ≡ shrinking-pairs
+unfolding computed
+shrinking-listed = refl

@@ -111,6 +111,13 @@ loop-unweighted = unweighted (a-pair 0 0) ∷ []
 unfoldable pub loop-under : Weighting → List Component
 loop-under w = record { pairs = a-pair 0 0 ∷ []; weightings = w ∷ [] } ∷ []
 
+-- f(f(x)) → f(x): the pair's right side is a proper subterm of its left side, and it stays
+unfoldable pub shrinking : System
+shrinking = system (1 ∷ []) ((app₁ 0 (app₁ 0 (var 0)) ⟶ app₁ 0 (var 0)) ∷ [])
+
+unfoldable pub shrinking-pairs : List Pair
+shrinking-pairs = a-pair 0 0 ∷ []
+
 -- f(s(s(x))) → f(x), and f(s(s(s(x)))) → f(x), with s = 1 + 65,535 times its argument: 0 f, 1 s
 unfoldable pub twice : System
 twice = system (1 ∷ 1 ∷ []) ((app₁ 0 (app₁ 1 (app₁ 1 (var 0))) ⟶ app₁ 0 (var 0)) ∷ [])
