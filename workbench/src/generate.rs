@@ -30,7 +30,7 @@ pub fn case(seed: u64) -> Case {
             base = some_base(random);
         }
     }
-    let (pack, certificate) = match random.below(100) {
+    let (mut pack, mut certificate) = match random.below(100) {
         0..=14 => files(&base),
         15..=66 => {
             spoil_weights(random, &mut base);
@@ -39,6 +39,9 @@ pub fn case(seed: u64) -> Case {
         67..=89 => spoil_records(random, &mut base),
         _ => damaged(random, &base),
     };
+    // No room behind the last byte, so that a memory checker sees every read past it.
+    pack.shrink_to_fit();
+    certificate.shrink_to_fit();
     let room = room(random, &pack);
     let questions = questions(random, &pack);
     Case { pack, certificate, room, questions }
