@@ -13,6 +13,8 @@ pub mod Descent
 pub mod Weighed
 -- how the code works them out
 pub mod Sums
+pub mod Least
 pub mod Working
 pub mod Arguments
 pub mod Weighing
+pub mod Gathering

@@ -35,7 +35,7 @@ within x h =
       coefficients-within = below-limit (x .coefficients) (search ors);
     }
 
-not-over : (x : Polynomial) → Within x → over-limit x ≡ false
+pub not-over : (x : Polynomial) → Within x → over-limit x ≡ false
 unfolding over-limit
 not-over x h = or-both-false (le-ltb limit (x .constant) (h .constant-within)) (none-above (x .coefficients) (h .coefficients-within))
 

@@ -11,6 +11,7 @@ use Rattle.rewriting.specs.Terms.{Tree, var, app, nil, cons, is-list}
 use Rattle.rewriting.specs.Systems.{variables-below}
 use Rattle.rewriting.proofs.Basics.{ands, Each, each-nil, each-cons, each-append}
 use Rattle.weights.specs.Polynomials.{Weight, Weighting, weight, Polynomial, no-coefficients, scaled-sum, summed, combined, polynomials, first, polynomial-of, marked-polynomial}
+use Rattle.weights.specs.Working.{rooted}
 use Rattle.weights.specs.Values.{Valuation, weighed, term-values, first-value, value, marked-value, total, value-of}
 
 -- SIXTEEN COEFFICIENTS
@@ -58,18 +59,25 @@ marked-sixteen w (app f ts) = combined-sixteen (w .marked) f (polynomials-sixtee
 marked-sixteen w nil = refl
 marked-sixteen w (cons t ts) = refl
 
+pub rooted-sixteen : (root ws : List Weight) (t : Tree) → length (rooted root ws t .coefficients) ≡ 16
+unfolding rooted
+rooted-sixteen root ws (var v) = length-set no-coefficients v 1
+rooted-sixteen root ws (app f ts) = combined-sixteen root f (polynomials-sixteen ws ts)
+rooted-sixteen root ws nil = refl
+rooted-sixteen root ws (cons t ts) = refl
+
 -- VALUES
 
 abbrev values : Valuation → List Polynomial → List ℕ
 values a xs = map (λ (x : Polynomial). value-of x a) xs
 
-none-total : (n v : ℕ) (a : Valuation) → total (replicate n 0) v a ≡ 0
+pub none-total : (n v : ℕ) (a : Valuation) → total (replicate n 0) v a ≡ 0
 unfolding total
 none-total zero v a = refl
 none-total (suc n) v a = let others = none-total n (suc v) a in omega arith
 
 -- the coefficients of a variable's polynomial, the first belonging to the variable u
-one-total : (n u v : ℕ) (a : Valuation) → v < n → total (set (replicate n 0) v 1) u a ≡ a (u + v)
+pub one-total : (n u v : ℕ) (a : Valuation) → v < n → total (set (replicate n 0) v 1) u a ≡ a (u + v)
 unfolding total
 one-total zero u v a h = absurd (omega arith)
 one-total (suc n) u zero a h = let others = none-total n (suc u) a in rw add-zero (omega arith)
@@ -79,7 +87,7 @@ one-total (suc n) u (suc v) a h =
     rw same (omega arith)
 
 -- scaling and adding polynomials scales and adds values
-scaled-total :
+pub scaled-total :
     (k : ℕ) (xs ys : List ℕ) → length xs ≡ length ys → (v : ℕ) (a : Valuation) →
     total (scaled-sum k xs ys) v a ≡ k * total xs v a + total ys v a
 unfolding scaled-sum total

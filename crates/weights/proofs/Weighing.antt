@@ -42,7 +42,7 @@ pub record Sum-so-far (root ws : List Weight) (f : ℕ) (t ts : Tree) (sum : Pol
   pub over-is : (over ws ts || over-limit (rooted root ws t)) ≡ rooted-over root ws t
 
 module _ (root ws : List Weight) (f : ℕ) where
-  sums-none : (t ts : Tree) → t ≡ app f ts → (k : ℕ) → k ≡ weight root f 0 → Sum-so-far root ws f t ts (polynomial k no-coefficients) 1
+  pub sums-none : (t ts : Tree) → t ≡ app f ts → (k : ℕ) → k ≡ weight root f 0 → Sum-so-far root ws f t ts (polynomial k no-coefficients) 1
   unfolding rooted rooted-over combined
   sums-none t ts e k h = rw (e, h) (record { polynomial-is = refl; over-is = refl })
 
@@ -53,7 +53,7 @@ module _ (root ws : List Weight) (f : ℕ) where
     sums-over h = sym (s .over-is) ∙ rw h
 
     -- it does not, and is added
-    sums-more : over ws u ≡ false → Sum-so-far root ws f t us (added (weight root f i) (polynomial-of ws u) sum) (suc i)
+    pub sums-more : over ws u ≡ false → Sum-so-far root ws f t us (added (weight root f i) (polynomial-of ws u) sum) (suc i)
     unfolding over summed added
     sums-more h =
         record {
@@ -63,22 +63,43 @@ module _ (root ws : List Weight) (f : ℕ) where
 
   -- all are added
   module _ (t : Tree) (i : ℕ) (sum : Polynomial) (s : Sum-so-far root ws f t nil sum i) where
-    sums-all : sum ≡ rooted root ws t
+    pub sums-all : sum ≡ rooted root ws t
     unfolding polynomials summed
     sums-all = s .polynomial-is
 
-    sums-limit : over-limit sum ≡ rooted-over root ws t
+    pub sums-limit : over-limit sum ≡ rooted-over root ws t
     unfolding polynomials summed over
     sums-limit = ap over-limit sums-all ∙ s .over-is
 
 -- THE WALK
 
-no-arguments : (p : System) (nodes : List ℕ) (next left : ℕ) (ts : Tree) → Arguments p nodes next 0 left ts → ts ≡ nil
+pub no-arguments : (p : System) (nodes : List ℕ) (next left : ℕ) (ts : Tree) → Arguments p nodes next 0 left ts → ts ≡ nil
 unfolding width is-list
 no-arguments p nodes next left (var v) a = absurd (false≢true (a .rest .list))
 no-arguments p nodes next left (app f ts) a = absurd (false≢true (a .rest .list))
 no-arguments p nodes next left nil a = refl
 no-arguments p nodes next left (cons t ts) a = absurd (omega (arith, a .rest .many))
+
+-- the first of the arguments that are left of a kept term after i
+module _
+    (arities nodes : List ℕ) (at left : ℕ) (w : Weighable arities nodes at left) (n next i : ℕ) (rest : Tree)
+    (are : Arguments (w .system) nodes next (n - i) left rest) (more : i < n) where
+  pub first-split : Split (w .system) nodes next (n - (i + 1)) left rest
+  first-split = split (w .system) nodes next (n - (i + 1)) left rest (rw (let e : n - i ≡ suc (n - (i + 1)) = omega arith in e) at are)
+
+  unfoldable pub first-argument : Weighable arities nodes next (left - 1)
+  first-argument =
+      record {
+        system = w .system;
+        term = first-split .first;
+        arities-are = w .arities-are;
+        arities-few = w .arities-few;
+        arities-small = w .arities-small;
+        is = first-split .is;
+        small = first-split .small;
+        kept = first-split .kept;
+        fits = first-split .fits;
+      }
 
 -- what is still to be weighed of a kept term after its first i arguments
 pub record Unweighed
@@ -110,22 +131,11 @@ module _ (arities nodes : List ℕ) (at left : ℕ) (w : Weighable arities nodes
   module _ (f n : ℕ) (sum : Polynomial) (next i : ℕ) (u : Unweighed arities nodes at left w root table f n sum next i) where
     -- one is left at least
     module _ (more : i < n) where
-      head : Split (w .system) nodes next (n - (i + 1)) left (u .rest)
-      head = split (w .system) nodes next (n - (i + 1)) left (u .rest) (rw (let e : n - i ≡ suc (n - (i + 1)) = omega arith in e) at (u .are))
+      abbrev head : Split (w .system) nodes next (n - (i + 1)) left (u .rest)
+      head = first-split arities nodes at left w n next i (u .rest) (u .are) more
 
-      pub next-argument : Weighable arities nodes next (left - 1)
-      next-argument =
-          record {
-            system = w .system;
-            term = head .first;
-            arities-are = w .arities-are;
-            arities-few = w .arities-few;
-            arities-small = w .arities-small;
-            is = head .is;
-            small = head .small;
-            kept = head .kept;
-            fits = head .fits;
-          }
+      abbrev pub next-argument : Weighable arities nodes next (left - 1)
+      next-argument = first-argument arities nodes at left w n next i (u .rest) (u .are) more
 
       -- what the code makes of it is r
       module _ (r : Formed) (means : (rs ws : List Weight) → Table-is table rs → Table-is table ws → Formed-as rs ws (next-argument .term) r) where
@@ -133,7 +143,7 @@ module _ (arities nodes : List ℕ) (at left : ℕ) (w : Weighable arities nodes
         term-first = term-not-list (w .system) (head .first) (head .is)
 
         judged-first : (ws : List Weight) → Table-is table ws → r .within ≡ not (over ws (head .first))
-        unfolding next-argument
+        unfolding first-argument
         judged-first ws b = rw (← rooted-over-plain ws (head .first) term-first) (means ws ws b b .judged)
 
         first-sums : (rs ws : List Weight) → Table-is root rs → Table-is table ws → Sum-so-far rs ws f (w .term) (cons (head .first) (head .others)) sum (i + 1)
@@ -151,7 +161,7 @@ module _ (arities nodes : List ℕ) (at left : ℕ) (w : Weighable arities nodes
           pub argument-added :
               (new : Polynomial) → new ≡ added (getD root (9 * f + 1 + i) 0) (r .polynomial) sum →
               Unweighed arities nodes at left w root table f n new (r .next) (i + 1)
-          unfolding flat next-argument
+          unfolding flat first-argument
           argument-added new e =
               let l = ap (λ (t : Tree). length (flat t)) (head .are) ∙ length-append (flat (head .first)) (flat (head .others)) in
               record {

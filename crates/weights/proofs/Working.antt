@@ -11,13 +11,14 @@ use Rattle.rewriting.specs.Terms.{Tree, var, app, nil, cons, Rule, is-list}
 use Rattle.rewriting.specs.Pairs.{arguments}
 use Rattle.rewriting.specs.Systems.{is-app}
 use Rattle.rewriting.proofs.Basics.{or-right}
+use Rattle.rewriting.proofs.Trees.{term-not-list}
 use Rattle.weights.specs.declared.Formed.{Formed}
 use Rattle.weights.specs.declared.Verdict.{Verdict}
 use Rattle.weights.specs.declared.Verdict.the-variants.{Over, Fails, Holds}
 use Rattle.weights.specs.Polynomials.{Weight, Weighting, Polynomial, polynomials, first, polynomial-of, marked-polynomial, at-least, greater}
 use Rattle.weights.specs.Limit.{over, marked-over}
 use Rattle.weights.specs.Judging.{Call, rule-over, rule-rises, call-over, call-falls}
-use Rattle.weights.specs.Working.{rooted, rooted-over, Formed-as, verdict}
+use Rattle.weights.specs.Working.{Weighable, Applied, rooted, rooted-over, Formed-as, verdict}
 
 -- A PLAIN SIDE
 
@@ -78,14 +79,17 @@ module _ (root ws : List Weight) (test : Polynomial → Polynomial → Bool) (t 
       let o : rooted-over root ws u ≡ true = not-false _ (sym (b .judged) ∙ h) in
       rw (or-right (rooted-over root ws t) o)
 
+  pub neither-over :
+      rooted-over root ws t ≡ false → rooted-over root ws u ≡ false → (b : Bool) → test (rooted root ws t) (rooted root ws u) ≡ b →
+      verdict false b ≡ sides-verdict root ws test t u
+  unfolding sides-verdict
+  neither-over o p b e = rw (o, p, e)
+
   pub neither-passes :
       (l r : Formed) → Formed-as root ws t l → Formed-as root ws u r → l .within ≡ true → r .within ≡ true →
       (b : Bool) → test (l .polynomial) (r .polynomial) ≡ b → verdict false b ≡ sides-verdict root ws test t u
-  unfolding sides-verdict
   neither-passes l r a b h k c e =
-      let o : rooted-over root ws t ≡ false = not-true _ (sym (a .judged) ∙ h) in
-      let p : rooted-over root ws u ≡ false = not-true _ (sym (b .judged) ∙ k) in
-      rw (o, p, ← a .formed h, ← b .formed k, e)
+      neither-over (not-true _ (sym (a .judged) ∙ h)) (not-true _ (sym (b .judged) ∙ k)) c (rw (← a .formed h, ← b .formed k) e)
 
 -- on a rule
 pub rule-verdict :
@@ -104,6 +108,26 @@ unfolding sides-verdict call-over call-falls
 call-verdict w c h k =
     rw
     (rooted-over-marked w (c .left) h, rooted-over-marked w (c .right) k, rooted-marked w (c .left) h, rooted-marked w (c .right) k)
+
+-- the verdict on a kept rule
+pub as-rule :
+    (arities nodes : List ℕ) (left right : ℕ) (l : Weighable arities nodes left 32) (m : Weighable arities nodes right 32) (ws ms : List Weight) (r : Verdict) →
+    r ≡ sides-verdict ws ws at-least (l .term) (m .term) →
+    r ≡ verdict (rule-over (record { weights = ws; marked = ms }) (record { left = l .term; right = m .term }))
+    (not (rule-rises (record { weights = ws; marked = ms }) (record { left = l .term; right = m .term })))
+as-rule arities nodes left right l m ws ms r e =
+    e ∙ rule-verdict (record { weights = ws; marked = ms }) (record { left = l .term; right = m .term })
+    (term-not-list (l .system) (l .term) (l .is))
+    (term-not-list (m .system) (m .term) (m .is))
+
+-- the verdict on a kept pair
+pub as-call :
+    (arities nodes : List ℕ) (left right : ℕ) (l : Applied arities nodes left) (m : Applied arities nodes right) (ws ms : List Weight) (r : Verdict) →
+    r ≡ sides-verdict ms ws greater (l .side .term) (m .side .term) →
+    r ≡ verdict (call-over (record { weights = ws; marked = ms }) (record { left = l .side .term; right = m .side .term }))
+    (call-falls (record { weights = ws; marked = ms }) (record { left = l .side .term; right = m .side .term }))
+as-call arities nodes left right l m ws ms r e =
+    e ∙ call-verdict (record { weights = ws; marked = ms }) (record { left = l .side .term; right = m .side .term }) (l .applied) (m .applied)
 
 -- WHAT A VERDICT TELLS
 

@@ -1,6 +1,8 @@
 // Linear polynomials: the polynomial of a side, the limit, and their order.
 pub mod arithmetic;
+mod exact;
 pub mod judging;
+mod quick;
 
 ghost use mathlib.Core.Path.{_≡_};
 ghost use mathlib.Core.Bool.{true, false};

@@ -1,0 +1,344 @@
+-- `weights::quick::gather` meets its contract. It calls itself on fewer nodes, so `left` is its measure. The loop's invariant:
+-- the sums have room, and they come to the factor times the term's polynomial together with the arguments still to be gathered.
+use mathlib.Core.Path.{_≡_, refl, sym, _∙_}
+use mathlib.Core.Bool.{true, false, false≢true}
+use mathlib.Core.List.{List}
+use Prim.Native.Nat.{ℕ, _+_, _*_, _-_, _≤_, _<_}
+use native.Mathlib.Omega.{arith}
+use lib.ListN.{length, getD, length-set}
+use borrow.Author.Needs.{needs}
+use borrow.Author.Tests.{not-true, not-false}
+use borrow.Fn.Kinds.{In}
+use borrow.Fn.PlainCycle.{Measures, is, falls, and}
+use Rattle.rewriting.proofs.Basics.{not-both}
+use Rattle.terms.proofs.code_arity.Reads as code-arity-reads
+use Rattle.weights.specs.Limit.{limit}
+use Rattle.weights.specs.Working.{Weighable, Room}
+use Rattle.weights.proofs.Arguments.{node-within, root-variable, root-symbol}
+use Rattle.weights.proofs.Weighing.{variable-read}
+use Rattle.weights.proofs.Gathering.{part-of, weight-part, room-after, with-own, variable-gathered, Ungathered, ungathered-all, argument-next, argument-gathered, all-gone, all-gathered}
+use Rattle.weights.proofs.quick.gather.Reads as gather
+use Rattle.weights.proofs.quick.gather.Kinds as gather-kinds
+use Rattle.weights.proofs.quick.+gather.Lts-gather as lts
+use Rattle.weights.proofs.quick.+gather.{statement}
+use Rattle.weights.proofs.quick.+gather.Tie.{close}
+
+abbrev μ-gather : Measures 5 gather-kinds.ps ℕ
+μ-gather κs a = a .1 .1 .1 .1 .1 .0
+
+-- what it is given at the measure t, and what a call of it asks below t
+abbrev given : ℕ → In 5 gather-kinds.ps
+given t = and 5 gather-kinds.ps (is 5 gather-kinds.ps μ-gather t) gather.Pre
+
+abbrev asked : ℕ → In 5 gather-kinds.ps
+asked t = and 5 gather-kinds.ps (falls 5 gather-kinds.ps _<_ μ-gather t) gather.Pre
+
+-- what it calls
+abbrev called : ℕ → lts.Claims
+called t = (code-arity-reads.Asked, code-arity-reads.Learnt, asked t, gather.Post)
+
+abbrev Inv-loop : lts.InvT-loop
+Inv-loop arities root table nodes at left factor sums₀ code c n own total₀ next₀ i₀ sums total next i =
+    (c < 64) × (n ≤ 8) × (i ≤ n) × Room next sums × (total ≤ 65535 + i * 281474976710656) ×
+    ((w : Weighable arities nodes at left) (before : List ℕ) → length before ≡ 17 → sums₀ ≡ with-own before factor own →
+    Ungathered arities nodes at left w root table c n factor before sums total next i)
+
+abbrev μ-loop : lts.MeasureT-loop
+μ-loop arities root table nodes at left factor sums₀ code c n own total₀ next₀ i₀ sums total next i = n - i
+
+module _ (t : ℕ) where
+  -- the entry, where the root's node is read, and the loop's head
+  abbrev Entry : Type 0
+  Entry = lts.Start (called t) (given t) gather.Post Inv-loop μ-loop
+
+  abbrev Node : Type 0
+  Node = lts.After-shared-slice-known5 (called t) (given t) gather.Post Inv-loop μ-loop
+
+  abbrev Head : Type 0
+  Head = lts.At-loop (called t) (given t) gather.Post Inv-loop μ-loop
+
+  abbrev from-node : Node → Entry
+  from-node c = c .before .before .before .before .before .before
+
+  abbrev from-head : Head → Entry
+  from-head c = from-node (c .before .before .before .before .before)
+
+  -- the root's byte, and the place in the table of its weight for argument i + 1
+  abbrev byte : Entry → ℕ
+  byte s = getD (s .args .nodes .now) (s .args .at) 0
+
+  abbrev place : Head → ℕ
+  place l = 9 * byte (from-head l) + 1 + l .loop .i
+
+  -- THE ROOT
+
+  read-code : lts.Need-shared-slice-read-code (called t) (given t) gather.Post Inv-loop μ-loop
+  read-code c = node-within _ _ _ _ (from-node c .pre .1 .6) .0
+
+  cast-c : lts.Need-cast-c (called t) (given t) gather.Post Inv-loop μ-loop
+  cast-c c = omega (arith, c .shared-slice-known5 .given (from-node c .args .at))
+
+  -- A VARIABLE
+
+  slot-low : (c : lts.Then1 (called t) (given t) gather.Post Inv-loop μ-loop) → byte (from-node (c .before)) - 64 < 16
+  slot-low c = root-variable _ _ _ _ (from-node (c .before) .pre .1 .6) (c .if1 .taken) .1
+
+  read-slot : lts.Need-slice-read-sums (called t) (given t) gather.Post Inv-loop μ-loop
+  read-slot c = omega (arith, slot-low (c .before), from-node (c .before .before) .pre .1 .5 .long)
+
+  add-slot : lts.Need-add-sums (called t) (given t) gather.Post Inv-loop μ-loop
+  add-slot c =
+      let p = from-node (c .before .before) .pre .1 in
+      omega (
+        arith,
+        slot-low (c .before),
+        p .5 .small (byte (from-node (c .before .before)) - 64) (let h = slot-low (c .before) in omega arith),
+        p .3,
+        p .4,
+        node-within _ _ _ _ (p .6) .0,
+      )
+
+  write-slot : lts.Need-slice-write-sums (called t) (given t) gather.Post Inv-loop μ-loop
+  write-slot c = omega (arith, slot-low (c .before), from-node (c .before .before) .pre .1 .5 .long)
+
+  after-variable : lts.Need-add-t22 (called t) (given t) gather.Post Inv-loop μ-loop
+  after-variable c =
+      let p = from-node (c .before .before) .pre .1 in
+      omega (arith, p .3, node-within _ _ _ _ (p .6) .0)
+
+  returns : lts.Need-returns (called t) (given t) gather.Post Inv-loop μ-loop
+  returns c =
+      let s = from-node (c .before .before) in
+      let p = s .pre .1 in
+      let h = c .before .if1 .taken in
+      let low = slot-low (c .before) in (
+        λ _. (omega arith, room-after _ _ _ _ (p .5) (omega (arith, low)) (omega (arith, p .4))),
+        (
+          λ w _. variable-read _ _ (root-variable _ _ _ _ w h .0) _,
+          λ w rs ws a b _. variable-gathered _ _ (root-variable _ _ _ _ w h .0) low rs ws _ _ (p .5 .long),
+        ),
+      )
+
+  -- A SYMBOL
+
+  code-arity-requires : lts.Need-code-arity-requires (called t) (given t) gather.Post Inv-loop μ-loop
+  code-arity-requires c κs = from-node (c .before) .pre .1 .0
+
+  read-own : lts.Need-shared-slice-read-own (called t) (given t) gather.Post Inv-loop μ-loop
+  read-own c = omega (arith, from-node (c .before .before .before) .pre .1 .1)
+
+  cast-own : lts.Need-cast-own (called t) (given t) gather.Post Inv-loop μ-loop
+  cast-own c = omega (arith, c .shared-slice-known6 .given (9 * byte (from-node (c .before .before .before))))
+
+  abbrev Symbol : Type 0
+  Symbol = lts.After-slice-known3 (called t) (given t) gather.Post Inv-loop μ-loop
+
+  abbrev from-symbol : Symbol → Entry
+  from-symbol c = from-node (c .before .before .before .before)
+
+  -- the root's own weight, times the factor
+  own-small : (c : Symbol) → getD (from-symbol c .args .root .now) (9 * byte (from-symbol c)) 0 ≤ 65535
+  own-small c = omega (arith, c .before .shared-slice-known6 .given (9 * byte (from-symbol c)))
+
+  own-part : (c : Symbol) → from-symbol c .args .factor * getD (from-symbol c .args .root .now) (9 * byte (from-symbol c)) 0 ≤ 281470681677825
+  own-part c = part-of _ _ (from-symbol c .pre .1 .4) (own-small c)
+
+  read-constant : lts.Need-slice-read-sums-2 (called t) (given t) gather.Post Inv-loop μ-loop
+  read-constant c = omega (arith, from-symbol c .pre .1 .5 .long)
+
+  mul-own : lts.Need-mul-sums-3 (called t) (given t) gather.Post Inv-loop μ-loop
+  mul-own c = omega (arith, own-part c)
+
+  add-own : lts.Need-add-sums-2 (called t) (given t) gather.Post Inv-loop μ-loop
+  add-own c =
+      let p = from-symbol c .pre .1 in
+      omega (arith, own-part c, p .5 .small 16 (omega arith), p .3, node-within _ _ _ _ (p .6) .0)
+
+  write-constant : lts.Need-slice-write-sums-2 (called t) (given t) gather.Post Inv-loop μ-loop
+  write-constant c = omega (arith, from-symbol c .pre .1 .5 .long)
+
+  after-symbol : lts.Need-add-next (called t) (given t) gather.Post Inv-loop μ-loop
+  after-symbol c =
+      let p = from-symbol c .pre .1 in
+      omega (arith, p .3, node-within _ _ _ _ (p .6) .0)
+
+  holds : lts.Need-loop-holds (called t) (given t) gather.Post Inv-loop μ-loop
+  holds c =
+      let s = from-symbol c in
+      let p = s .pre .1 in
+      let low = c .before .before .before .if1 .left in
+      let n = c .before .before .code-arity .ensures .0 in (
+        low,
+        omega (arith, n, root-symbol _ _ _ _ (p .6) low .few-arguments),
+        omega arith,
+        room-after _ _ _ _ (p .5) (omega arith) (omega (arith, own-part c)),
+        omega (arith, own-small c),
+        λ w before long e. rw (n, e) (ungathered-all _ _ _ _ w _ _ _ before long low _ refl),
+      )
+
+  -- AN ARGUMENT
+
+  read-weight : lts.Need-shared-slice-read-weight (called t) (given t) gather.Post Inv-loop μ-loop
+  read-weight c =
+      let l = c .before .before in
+      omega (arith, l .loop .inv .0, l .loop .inv .1, from-head l .pre .1 .1, c .before .loop-test .taken)
+
+  cast-weight : lts.Need-cast-weight (called t) (given t) gather.Post Inv-loop μ-loop
+  cast-weight c = omega (arith, c .shared-slice-known7 .given (place (c .before .before)))
+
+  mul-below : lts.Need-mul-below (called t) (given t) gather.Post Inv-loop μ-loop
+  mul-below c =
+      let l = c .before .before in
+      omega (arith, part-of (from-head l .args .factor) (getD (from-head l .args .root .now) (place l) 0) (from-head l .pre .1 .4) (omega (arith, c .shared-slice-known7 .given (place l))))
+
+  left-positive : lts.Need-sub-gather (called t) (given t) gather.Post Inv-loop μ-loop
+  left-positive c = node-within _ _ _ _ (from-head (c .before .before .before) .pre .1 .6) .1
+
+  gather-requires : lts.Need-gather-requires (called t) (given t) gather.Post Inv-loop μ-loop
+  gather-requires c κs =
+      let l = c .before .before .before .before in
+      let p = from-head l .pre in
+      let w = p .1 .6 in (
+        omega (arith, p .0, node-within _ _ _ _ w .1),
+        (
+          p .1 .0,
+          p .1 .2,
+          p .1 .2,
+          p .1 .3,
+          c .before .if2 .left,
+          l .loop .inv .3,
+          argument-next _ _ _ _ w _ _ _ _ (p .1 .5 .long) _ _ _ _ _ _ (l .loop .inv .5 w (from-head l .args .sums .now) (p .1 .5 .long) refl) (c .before .before .before .loop-test .taken),
+        ),
+      )
+
+  -- the argument's total, times its weight
+  part-small :
+      (c : lts.After-struct-known2 (called t) (given t) gather.Post Inv-loop μ-loop) →
+      let done = c .before .before .before .before .before in
+      let l = done .before .before .before .before .before in
+      getD (from-head l .args .root .now) (place l) 0 * done .gather .result .total ≤ 281470681677825
+  part-small c =
+      let done = c .before .before .before .before .before in
+      let l = done .before .before .before .before .before in
+      weight-part (getD (from-head l .args .root .now) (place l) 0) _
+      (omega (arith, done .before .before .before .shared-slice-known7 .given (place l)))
+      (done .gather .ensures .0 (not-false _ (c .before .if3 .left)) .0)
+
+  mul-total : lts.Need-mul-total (called t) (given t) gather.Post Inv-loop μ-loop
+  mul-total c = omega (arith, part-small c)
+
+  add-total : lts.Need-add-total (called t) (given t) gather.Post Inv-loop μ-loop
+  add-total c =
+      let l = c .before .before .before .before .before .before .before .before .before .before in
+      omega (arith, part-small c, l .loop .inv .4, l .loop .inv .1, l .loop .inv .2)
+
+  again : lts.Need-loop-again (called t) (given t) gather.Post Inv-loop μ-loop
+  again c =
+      let done = c .before .before .before .before .before in
+      let l = done .before .before .before .before .before in
+      let p = from-head l .pre .1 in
+      let more = done .before .before .before .before .loop-test .taken in
+      let part = done .gather in
+      let through : part .result .through ≡ true = not-false _ (c .before .if3 .left) in (
+        l .loop .inv .0,
+        l .loop .inv .1,
+        omega (arith, more),
+        part .ensures .0 through .1,
+        omega (arith, l .loop .inv .4, part-small c),
+        λ w before long e.
+            let u = l .loop .inv .5 w before long e in
+            let v = argument-next _ _ _ _ w _ _ _ _ long _ _ _ _ _ _ u more in
+            argument-gathered _ _ _ _ w _ _ _ _ long _ _ _ _ _ _ u more _ _ _
+            (λ rs ws a b. part .ensures .1 .1 v rs ws a b through)
+            (part .ensures .1 .0 v through)
+            (l .loop .inv .0)
+            (l .loop .inv .1),
+      )
+
+  -- ALL ARGUMENTS
+
+  returns-4 : lts.Need-returns-4 (called t) (given t) gather.Post Inv-loop μ-loop
+  returns-4 c = (λ k. absurd (false≢true k), (λ w k. absurd (false≢true k), λ w rs ws a b k. absurd (false≢true k)))
+
+  returns-5 : lts.Need-returns-5 (called t) (given t) gather.Post Inv-loop μ-loop
+  unfolding limit
+  returns-5 c =
+      let l = c .before .before in
+      let p = from-head l .pre .1 in
+      let done = c .before .loop-test .left in (
+        λ _. (c .if4 .left, l .loop .inv .3),
+        (
+          λ w _. all-gone _ _ _ _ w _ _ _ _ (p .5 .long) _ _ _ _ _ _ (l .loop .inv .5 w (from-head l .args .sums .now) (p .5 .long) refl) done,
+          λ w rs ws a b _. all-gathered _ _ _ _ w _ _ _ _ (p .5 .long) _ _ _ _ _ _ (l .loop .inv .5 w (from-head l .args .sums .now) (p .5 .long) refl) done (c .if4 .left) rs ws a b,
+        ),
+      )
+
+  -- GIVEN UP
+
+  returns-2 : lts.Need-returns-2 (called t) (given t) gather.Post Inv-loop μ-loop
+  returns-2 c = (λ k. absurd (false≢true k), (λ w k. absurd (false≢true k), λ w rs ws a b k. absurd (false≢true k)))
+
+  returns-3 : lts.Need-returns-3 (called t) (given t) gather.Post Inv-loop μ-loop
+  returns-3 c =
+      let passed = not-true _ (c .if3 .taken) in (
+        λ k. absurd (not-both _ k passed),
+        (λ w k. absurd (not-both _ k passed), λ w rs ws a b k. absurd (not-both _ k passed)),
+      )
+
+  -- the sums keep their length
+  same-length : (l : Head) → length (l .loop .sums) ≡ length (from-head l .args .sums .now)
+  same-length l = l .loop .inv .3 .long ∙ sym (from-head l .pre .1 .5 .long)
+
+  same-length-3 : lts.Need-same-length-3 (called t) (given t) gather.Post Inv-loop μ-loop
+  same-length-3 c =
+      let done = c .before .before .before .before in
+      done .gather .kept .1 .1 .1 .1 .1 .1 .1 .0 ∙ same-length (done .before .before .before .before .before)
+
+pub +gather-spec : {M : Type 1} → statement M
++gather-spec =
+    close μ-gather
+    (λ t.
+    lts.spec (called t) (given t) gather.Post Inv-loop μ-loop
+    (read-code t)
+    (cast-c t)
+    (λ c. omega (arith, slot-low t c))
+    (read-slot t)
+    (add-slot t)
+    (λ c. omega (arith, slot-low t (c .before)))
+    (write-slot t)
+    (after-variable t)
+    (λ c. search needs)
+    (returns t)
+    (code-arity-requires t)
+    (λ c. omega arith)
+    (λ c. omega arith)
+    (read-own t)
+    (cast-own t)
+    (read-constant t)
+    (mul-own t)
+    (add-own t)
+    (write-constant t)
+    (after-symbol t)
+    (holds t)
+    (λ c. omega arith)
+    (λ c. omega arith)
+    (λ c. omega (arith, c .before .loop .inv .0))
+    (λ c. omega (arith, c .before .loop .inv .0))
+    (read-weight t)
+    (cast-weight t)
+    (mul-below t)
+    (λ c. same-length t (c .before .before .before))
+    (returns-2 t)
+    (left-positive t)
+    (gather-requires t)
+    (same-length-3 t)
+    (returns-3 t)
+    (mul-total t)
+    (add-total t)
+    (λ c. omega arith)
+    (λ c. omega arith)
+    (again t)
+    (λ c. same-length t (c .before .before))
+    (returns-4 t)
+    (λ c. same-length t (c .before .before))
+    (returns-5 t))

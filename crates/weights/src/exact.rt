@@ -1,0 +1,59 @@
+// One rule, and one pair, by their polynomials: the exact way, for sides that the quick way gives up.
+use crate::Verdict;
+ghost use mathlib.Core.Path.{_≡_};
+ghost use mathlib.Core.Bool.{not};
+ghost use mathlib.Core.List.{List};
+ghost use lib.ListN.{length};
+ghost use Prim.Native.Nat.{_≤_};
+ghost use Rattle.weights.specs.Polynomials.{Weight};
+ghost use Rattle.weights.specs.Judging.{rule-over, rule-rises, call-over, call-falls};
+ghost use Rattle.weights.specs.Working.{Table-is, Weighable, Applied, verdict};
+
+// The rule whose sides are kept at `left` and `right`: holds if its left is at least its right.
+pub fn judge_rule(arities: &[u8], table: &[u16], nodes: &[u8], left: usize, right: usize) -> Verdict
+    requires { ⌜ (length (now arities) ≡ 64) × (length (now table) ≡ 576) × (length (now nodes) ≤ 65536) × Weighable (now arities) (now nodes) left 32 × Weighable (now arities) (now nodes) right 32 ⌝ }
+    ensures { λ r. ⌜ ((l : Weighable (now (arities .entry)) (now (nodes .entry)) left 32) (m : Weighable (now (arities .entry)) (now (nodes .entry)) right 32) (ws ms : List Weight) → Table-is (now (table .entry)) ws → r ≡ verdict (rule-over (record { weights = ws; marked = ms }) (record { left = l .term; right = m .term })) (not (rule-rises (record { weights = ws; marked = ms }) (record { left = l .term; right = m .term })))) ⌝ }
+{
+    let l = crate::form_at(arities, table, table, nodes, left, 32);
+    if !l.within {
+        return Verdict::Over;
+    }
+    let r = crate::form_at(arities, table, table, nodes, right, 32);
+    if !r.within {
+        return Verdict::Over;
+    }
+    let x = l.polynomial;
+    let y = r.polynomial;
+    if crate::arithmetic::at_least(x, y) {
+        return Verdict::Holds;
+    }
+    Verdict::Fails
+}
+
+// The pair whose sides are kept at `left` and `right`, their roots being tuple symbols: holds if its left is greater.
+pub fn judge_call(
+    arities: &[u8],
+    marked: &[u16],
+    table: &[u16],
+    nodes: &[u8],
+    left: usize,
+    right: usize,
+) -> Verdict
+    requires { ⌜ (length (now arities) ≡ 64) × (length (now marked) ≡ 576) × (length (now table) ≡ 576) × (length (now nodes) ≤ 65536) × Applied (now arities) (now nodes) left × Applied (now arities) (now nodes) right ⌝ }
+    ensures { λ r. ⌜ ((l : Applied (now (arities .entry)) (now (nodes .entry)) left) (m : Applied (now (arities .entry)) (now (nodes .entry)) right) (ws ms : List Weight) → Table-is (now (table .entry)) ws → Table-is (now (marked .entry)) ms → r ≡ verdict (call-over (record { weights = ws; marked = ms }) (record { left = l .side .term; right = m .side .term })) (call-falls (record { weights = ws; marked = ms }) (record { left = l .side .term; right = m .side .term }))) ⌝ }
+{
+    let l = crate::form_at(arities, marked, table, nodes, left, 32);
+    if !l.within {
+        return Verdict::Over;
+    }
+    let r = crate::form_at(arities, marked, table, nodes, right, 32);
+    if !r.within {
+        return Verdict::Over;
+    }
+    let x = l.polynomial;
+    let y = r.polynomial;
+    if crate::arithmetic::greater(x, y) {
+        return Verdict::Holds;
+    }
+    Verdict::Fails
+}

@@ -1,0 +1,108 @@
+// The quick way to a polynomial: every node adds its own part, times the weights above it, to sums that the caller lends.
+ghost use mathlib.Core.Path.{_≡_};
+ghost use mathlib.Core.Bool.{true, _&&_};
+ghost use mathlib.Core.List.{List};
+ghost use Prim.Native.Nat.{_+_, _≤_};
+ghost use lib.Dec.{ltb};
+ghost use lib.ListN.{length, getD};
+ghost use Rattle.terms.specs.Sides.{flat};
+ghost use Rattle.weights.specs.Polynomials.{Weight, each-at-least};
+ghost use Rattle.weights.specs.Working.{Table-is, Weighable, Room, Gathered};
+
+// Whether the quick way went through, the place after the term, and the polynomial's value where every variable is 1.
+pub struct Gathering {
+    pub through: bool,
+    pub next: usize,
+    pub total: u64,
+}
+
+// Adds `factor` times the polynomial of the term kept at `at` to the sums: its root weighed by `root`, what is below it by
+// `table`. It gives up where a node's total passes the limit: below that no constant and no coefficient does.
+pub fn gather(
+    arities: &[u8],
+    root: &[u16],
+    table: &[u16],
+    nodes: &[u8],
+    at: usize,
+    left: usize,
+    factor: u64,
+    sums: &mut [u64],
+) -> Gathering
+    requires { ⌜ (length (now arities) ≡ 64) × (length (now root) ≡ 576) × (length (now table) ≡ 576) × (length (now nodes) ≤ 65536) × (factor ≤ 4294967295) × Room at (now sums) × Weighable (now arities) (now nodes) at left ⌝ }
+    ensures bounded { λ r. ⌜ (r .through ≡ true → (r .total ≤ 4294967295) × Room (r .next) (now (sums .exit))) ⌝ }
+    ensures ends { λ r. ⌜ ((w : Weighable (now (arities .entry)) (now (nodes .entry)) at left) → r .through ≡ true → r .next ≡ at + length (flat (w .term))) ⌝ }
+    ensures means { λ r. ⌜ ((w : Weighable (now (arities .entry)) (now (nodes .entry)) at left) (rs ws : List Weight) → Table-is (now (root .entry)) rs → Table-is (now (table .entry)) ws → r .through ≡ true → Gathered rs ws (w .term) factor (r .total) (now (sums .entry)) (now (sums .exit))) ⌝ }
+{
+    let code = nodes[at];
+    let c = code as usize;
+    if 64 <= c {
+        sums[c - 64] = sums[c - 64] + factor;
+        return Gathering {
+            through: true,
+            next: at + 1,
+            total: 1,
+        };
+    }
+    let n = terms::code_arity(arities, code);
+    let own = root[9 * c] as u64;
+    sums[16] = sums[16] + factor * own;
+    let mut total = own;
+    let mut next = at + 1;
+    let mut i = 0;
+    while i < n {
+        let weight = root[9 * c + 1 + i] as u64;
+        let below = factor * weight;
+        if 4294967295 < below {
+            return Gathering {
+                through: false,
+                next,
+                total,
+            };
+        }
+        let part = gather(arities, table, table, nodes, next, left - 1, below, sums);
+        if !part.through {
+            return part;
+        }
+        total = total + weight * part.total;
+        next = part.next;
+        i = i + 1;
+    }
+    if 4294967295 < total {
+        return Gathering {
+            through: false,
+            next,
+            total,
+        };
+    }
+    Gathering {
+        through: true,
+        next,
+        total,
+    }
+}
+
+// Each sum is at least the other's.
+pub fn all_at_least(xs: &[u64], ys: &[u64]) -> bool
+    requires { ⌜ (length (now xs) ≡ 17) × (length (now ys) ≡ 17) ⌝ }
+    ensures { λ r. ⌜ r ≡ each-at-least (now (xs .entry)) (now (ys .entry)) ⌝ }
+{
+    let mut v = 0;
+    while v < 17 {
+        if xs[v] < ys[v] {
+            return false;
+        }
+        v = v + 1;
+    }
+    true
+}
+
+// Besides, the constant's is greater.
+pub fn greater_sums(xs: &[u64], ys: &[u64]) -> bool
+    requires { ⌜ (length (now xs) ≡ 17) × (length (now ys) ≡ 17) ⌝ }
+    ensures { λ r. ⌜ r ≡ (ltb (getD (now (ys .entry)) 16 0) (getD (now (xs .entry)) 16 0) && each-at-least (now (xs .entry)) (now (ys .entry))) ⌝ }
+{
+    if xs[16] <= ys[16] {
+        return false;
+    }
+    all_at_least(xs, ys)
+}
