@@ -1,5 +1,6 @@
 // Records of 8 bytes, of which both files are made, and the table of which kind may stand after which.
 pub mod order;
+pub mod reader;
 
 ghost use mathlib.Core.Path.{_≡_};
 ghost use Prim.Native.Nat.{_+_, _≤_, _<_};
@@ -98,14 +99,11 @@ pub fn record_at(s: &[u8], i: usize) -> Record
     }
 }
 
-// The record that begins at byte i, if the table lets its kind stand there.
+// The record that begins at byte i, if the table lets its kind stand there. A reader of the file gives it.
 pub fn read_wanted(s: &[u8], i: usize, before: usize, due: usize, weighted: bool) -> Wanted
     requires { ⌜ (i + 8 ≤ length (now s)) × (before < 11) ⌝ }
     ensures { λ r. ⌜ r ≡ wanted-at (now (s .entry)) i before due weighted ⌝ }
 {
-    let r = record_at(s, i);
-    if order::may_follow(before, order::index(r.kind), due, weighted) {
-        return Wanted::Found(r);
-    }
-    Wanted::Stray
+    let mut r = reader::Reader { file: s, at: i };
+    reader::next_wanted(&mut r, before, due, weighted)
 }
