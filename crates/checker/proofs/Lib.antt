@@ -18,5 +18,7 @@ pub mod FromRead
 pub mod FromStore
 pub mod Positions
 pub mod Tables
+pub mod Runs
 pub mod Verdicts
+pub mod Known
 pub mod Answering

@@ -106,6 +106,14 @@ module _ (cert : List ℕ) (at : ℕ) (c : Component) (here : Component-at cert 
   pub header-here : (at < length cert / 8) × (record-at cert (8 * at) ≡ header)
   header-here = record-here cert at from-header
 
+  -- what the C record tells
+  module _ {r : Record} (read : r ≡ record-at cert (8 * at)) where
+    pub weightings-read : r .b ≡ length (c .weightings)
+    weightings-read = ap (λ (x : Record). x .b) (read ∙ header-here .1)
+
+    pub pairs-read : length (c .pairs) ≡ r .c
+    pairs-read = sym (ap (λ (x : Record). x .c) (read ∙ header-here .1))
+
   from-pairs : drop (at + 1) (all-records cert) ≡ pair-records (c .pairs) ++ (weighting-records (c .weightings) ++ later)
   from-pairs = records-after cert at (header ∷ []) from-header refl
 

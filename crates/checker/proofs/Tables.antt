@@ -1,14 +1,14 @@
--- Filling a dense table from weights that rise: each weight has an entry of its own, which no weight before it has.
+-- Filling a dense table from weights that rise, and clearing it by them: each weight has an entry of its own, which no other has.
 use mathlib.Core.Path.{_≡_, refl, sym, ap, _∙_}
 use mathlib.Core.Bool.{true, false, _&&_, cond}
 use mathlib.Core.Logic.{⊎-elim}
 use mathlib.Core.List.{List, [], _∷_, _++_}
-use Prim.Native.Nat.{ℕ, _+_, _*_, _≤_, _<_}
+use Prim.Native.Nat.{ℕ, _+_, _*_, _/_, _%_, _≤_, _<_}
 use native.Mathlib.Decide.{ℕ-discrete}
 use native.Mathlib.Omega.{arith}
 use lib.Dec.{ltb, eqb}
-use lib.ListN.{getD, set, replicate, length-set, length-replicate, getD-replicate}
-use lib.Seq.{getD-set-same, getD-set-other}
+use lib.ListN.{length, getD, set, replicate, length-set, length-replicate, getD-replicate}
+use lib.Seq.{getD-set-same, getD-set-other, ext-getD}
 use borrow.Author.Tests.{ltb-true, eqb-true, eq-eqb}
 use Rattle.rewriting.proofs.Basics.{by-test, and-left, and-right, or-cases, Each, each-nil, each-cons, each-head, each-tail}
 use Rattle.records.specs.Rising.{rises, rising}
@@ -32,7 +32,7 @@ entries-rise a b c d small h =
     (λ k. omega (arith, eqb-true a c (and-left _ _ k), ltb-true b d (and-right (eqb a c) _ k)))
     (or-cases (ltb a c) _ h)
 
-abbrev Rise : List Weight → Type 0
+abbrev pub Rise : List Weight → Type 0
 Rise ws = rising (λ w. w .symbol) (λ w. w .place) ws ≡ true
 
 entries-before : (xs : List Weight) (w : Weight) (ys : List Weight) → Rise (xs ++ (w ∷ ys)) → Each In-table (xs ++ (w ∷ ys)) → Each (λ x. entry x < entry w) xs
@@ -68,6 +68,10 @@ other-weights w f i differ [] = rw (other-entry w f i differ)
 other-weights w f i differ (x ∷ xs) =
     ap (cond (eqb (x .symbol) f && eqb (x .place) i) (x .value)) (other-weights w f i differ xs)
 
+first-other : (w : Weight) (ws : List Weight) (f i : ℕ) → (entry w ≡ 9 * f + i → ⊥) → weight (w ∷ ws) f i ≡ weight ws f i
+unfolding weight
+first-other w ws f i differ = rw (other-entry w f i differ)
+
 -- THE TABLE
 
 pub empty-table : Table-is (replicate 576 0) []
@@ -94,3 +98,53 @@ one-filled table done w left t rise small in-table =
             ∙ sym (last-weight w (entries-before done w left rise small)))
         go (no d) =
             getD-set-other table (entry w) (9 * f + i) (w .value) 0 d ∙ t .are f i h k ∙ sym (other-weights w f i (λ e. d (sym e)) done)
+
+-- CLEARING IT, first weight first
+
+-- those that come after an entry say nothing of it
+weightless : (f i : ℕ) (x : Weight) (ys : List Weight) → 9 * f + i < entry x → Rise (x ∷ ys) → Each In-table (x ∷ ys) → weight (x ∷ ys) f i ≡ 0
+unfolding weight rising
+weightless f i x [] above rise small = rw (other-entry x f i (λ e. omega arith))
+weightless f i x (y ∷ ys) above rise small =
+    let first = rises (x .symbol) (x .place) (y .symbol) (y .place) in
+    let up = entries-rise (x .symbol) (x .place) (y .symbol) (y .place) (each-head small .1) (and-left first _ rise) in
+    rw (other-entry x f i (λ e. omega arith)) (weightless f i y ys (omega (arith, up)) (and-right first _ rise) (each-tail small))
+
+none-after : (w : Weight) (left : List Weight) → Rise (w ∷ left) → Each In-table (w ∷ left) → weight left (w .symbol) (w .place) ≡ 0
+unfolding weight rising
+none-after w [] rise small = refl
+none-after w (y ∷ ys) rise small =
+    let first = rises (w .symbol) (w .place) (y .symbol) (y .place) in
+    let up = entries-rise (w .symbol) (w .place) (y .symbol) (y .place) (each-head small .1) (and-left first _ rise) in
+    weightless (w .symbol) (w .place) y ys up (and-right first _ rise) (each-tail small)
+
+pub one-cleared :
+    (table : List ℕ) (w : Weight) (left : List Weight) → Table-is table (w ∷ left) → Rise (w ∷ left) → Each In-table (w ∷ left) →
+    Table-is (set table (entry w) 0) left
+one-cleared table w left t rise small =
+    let long = t .long in
+    record { long = length-set table (entry w) 0 ∙ long; are = are }
+  where
+    are : (f i : ℕ) → f < 64 → i ≤ 8 → getD (set table (entry w) 0) (9 * f + i) 0 ≡ weight left f i
+    are f i h k = go (ℕ-discrete (9 * f + i) (entry w))
+      where
+        go : Dec (9 * f + i ≡ entry w) → getD (set table (entry w) 0) (9 * f + i) 0 ≡ weight left f i
+        go (yes e) =
+            let in-table = each-head small in
+            let same-symbol : f ≡ w .symbol = omega (arith, in-table .1) in
+            let same-place : i ≡ w .place = omega (arith, in-table .1) in
+            rw (same-symbol, same-place)
+            (getD-set-same table (entry w) 0 0 (omega (arith, t .long, in-table .0, in-table .1)) ∙ sym (none-after w left rise small))
+        go (no d) = getD-set-other table (entry w) (9 * f + i) 0 0 d ∙ t .are f i h k ∙ first-other w left f i (λ e. d (sym e))
+
+-- where none is left, all of it is zero
+pub all-cleared : (table : List ℕ) → Table-is table [] → table ≡ replicate 576 0
+unfolding weight
+all-cleared table t =
+    ext-getD 0 table (replicate 576 0) (t .long ∙ sym (length-replicate {A = ℕ} 576 0))
+    (λ k h. entry-zero k h ∙ sym (getD-replicate {A = ℕ} 576 k 0 0 (omega (arith, t .long))))
+  where
+    entry-zero : (k : ℕ) → k < length table → getD table k 0 ≡ 0
+    entry-zero k h =
+        let e : 9 * (k / 9) + k % 9 ≡ k = omega arith in
+        rw e at (t .are (k / 9) (k % 9) (omega (arith, t .long)) (omega arith))

@@ -11,6 +11,7 @@ use Rattle.rewriting.specs.Pairs.{Pair, is-pair}
 use Rattle.records.specs.declared.Record.{Record}
 use Rattle.records.specs.declared.Answer.{Answer}
 use Rattle.records.specs.Outcomes.{Outcome, refused, passed, refusal}
+use Rattle.records.specs.Order.{W-weight}
 use Rattle.records.specs.Records.{all-records}
 use Rattle.records.specs.Rising.{rising}
 use Rattle.records.specs.Answers.{outcome-of}
@@ -21,11 +22,13 @@ use Rattle.pairs.specs.Walking.{Laid}
 use Rattle.weights.specs.Polynomials.{Weight, Weighting}
 use Rattle.weights.specs.declared.Verdict.{Verdict}
 use Rattle.weights.specs.declared.Verdict.the-variants.{Over, Fails, Holds}
+use Rattle.weights.specs.Judging.{any, is-none, without, rule-over, rule-rises, call-over, call-falls}
+use Rattle.weights.specs.Working.{Table-is, verdict}
 use Rattle.certificates.specs.Components.{Component, no-component}
 use Rattle.certificates.specs.Reading.{read-certificate}
 use Rattle.certificates.specs.Encoding.{weight-records, component-records}
 use Rattle.certificates.specs.Working.{Owned, doubled, pairs-in}
-use Rattle.checker.specs.Judge.{plain, component-refusal}
+use Rattle.checker.specs.Judge.{plain, calls, component-refusal}
 
 -- the arrays in which a pack is kept have their lengths, and its sides lie in them
 pub record Kept-pack (rules : ℕ) (arities starts nodes marks : List ℕ) : Type 0 where
@@ -109,6 +112,11 @@ pub record Weights-at (certificate : List ℕ) (from : ℕ) (kind : ℕ) (ws : L
   pub other-kind : (r : Record) (rs : List Record) → rest ≡ r ∷ rs → r .kind ≡ kind → ⊥
   pub fillable : Fillable ws
 
+-- the same weights as `vs` stand from record `from` on, and end before record `after`
+pub record Same-weights (vs ws : List Weight) (from after : ℕ) : Type 0 where
+  pub same : vs ≡ ws
+  pub passed : after ≡ from + length ws
+
 -- P records stand from a record on
 pub record Pairs-at (certificate : List ℕ) (from : ℕ) (qs : List Pair) : Type 0 where
   pub rest : List Record
@@ -126,6 +134,17 @@ pub record Component-fits (p : System) (c : Component) : Type 0 where
   pub are-pairs : All-pairs p (c .pairs)
   pub fillable : (w : Weighting) (ws : List Weighting) → c .weightings ≡ w ∷ ws → Fillable (w .weights) × Fillable (w .marked)
 
+-- the verdicts on all rules and on some pairs under weights and marked weights
+unfoldable pub rules-verdict : System → (weights marked : List Weight) → Verdict
+rules-verdict p ws ms =
+    let w : Weighting = record { weights = ws; marked = ms } in
+    verdict (any (rule-over w) (p .rules)) (not (any (rule-rises w) (p .rules)))
+
+unfoldable pub calls-verdict : System → List Pair → (weights marked : List Weight) → Verdict
+calls-verdict p qs ws ms =
+    let w : Weighting = record { weights = ws; marked = ms } in
+    verdict (any (call-over w) (calls p qs)) (is-none (without (call-falls w) (calls p qs)))
+
 -- the first in the paper's order: 11 for either, 12 for the rules, 13 for the pairs; else the record after the component
 unfoldable pub chosen : (rules calls : Verdict) → (next : ℕ) → Outcome ℕ
 chosen Over c n = refused 11
@@ -135,6 +154,28 @@ chosen Fails Holds n = refused 12
 chosen Holds Over n = refused 11
 chosen Holds Fails n = refused 13
 chosen Holds Holds n = passed n
+
+-- the table holds the weights whose W records begin at record `before`, and all rules hold under them, whatever the marked ones are
+pub record Rules-hold (p : System) (certificate : List ℕ) (before : ℕ) (table : List ℕ) : Type 0 where
+  pub weights : List Weight
+  pub stand : Weights-at certificate before W-weight weights
+  pub kept : Table-is table weights
+  pub hold : (marked : List Weight) → Holds ≡ rules-verdict p weights marked
+
+-- what is known when the components up to record `at` have passed: `before` is where the last weights begin, 0 where there were none
+pub record Rules-known (p : System) (certificate : List ℕ) (at before : ℕ) (table : List ℕ) : Type 0 where
+  pub behind : before ≤ at
+  pub none : before ≡ 0 → table ≡ replicate 576 0
+  pub some : 0 < before → Rules-hold p certificate before table
+
+-- where the last weights begin once this component has passed
+unfoldable pub last-weights : Component → (at before : ℕ) → ℕ
+last-weights c at before = cond (eqb (length (c .weightings)) 0) before (at + 1 + length (c .pairs))
+
+-- what is known once this component has passed
+unfoldable pub Known-after : System → Component → (certificate : List ℕ) → (at before : ℕ) → (table : List ℕ) → Type 0
+Known-after p c certificate at before table =
+    component-refusal p (plain p) c ≡ 0 → Rules-known p certificate (at + record-count c) (last-weights c at before) table
 
 -- all components of a certificate that was read
 pub record Components-from (p : System) (certificate : List ℕ) (components rules : ℕ) (arities starts nodes marks : List ℕ) : Type 0 where

@@ -3,15 +3,20 @@ use records::Answer;
 use records::Refusal;
 use weights::Verdict;
 ghost use mathlib.Core.Path.{_≡_};
-ghost use Prim.Native.Nat.{ℕ, _+_, _%_, _≤_};
-ghost use lib.ListN.{length};
+ghost use mathlib.Core.List.{List};
+ghost use Prim.Native.Nat.{ℕ, _+_, _%_, _≤_, _<_};
+ghost use lib.ListN.{length, replicate};
 ghost use Rattle.rewriting.specs.Terms.{System};
+ghost use Rattle.rewriting.specs.Pairs.{Pair};
 ghost use Rattle.packs.specs.Stored.{Stored};
 ghost use Rattle.records.specs.Outcomes.{refusal};
 ghost use Rattle.records.specs.Answers.{outcome-of};
+ghost use Rattle.records.specs.Order.{W-weight, M-marked};
+ghost use Rattle.weights.specs.Polynomials.{Weight};
+ghost use Rattle.weights.specs.Working.{Table-is};
 ghost use Rattle.certificates.specs.Components.{Component};
 ghost use Rattle.checker.specs.Judge.{components-refusal, plain};
-ghost use Rattle.checker.specs.Working.{Kept-pack, Component-at, Component-fits, Component-judged, chosen, Components-from};
+ghost use Rattle.checker.specs.Working.{Kept-pack, Component-at, Component-fits, Component-judged, Weights-at, Pairs-at, All-pairs, chosen, calls-verdict, Rules-known, last-weights, Known-after, Components-from};
 
 // The first in the paper's order: 11 for either, 12 for the rules, 13 for the pairs.
 fn choose(rules: Verdict, calls: Verdict, next: usize) -> Answer
@@ -32,38 +37,105 @@ fn choose(rules: Verdict, calls: Verdict, next: usize) -> Answer
     }
 }
 
-// A component with a weighting, whose C record is record `at`: 11, 12, 13. Answers the record after it.
+// Puts the W records from record `from` on into the table, in place of those from record `before` on. Answers the record after them.
+fn refill(certificate: &[u8], before: usize, from: usize, table: &mut [u16]) -> usize
+    requires { ⌜ (length (now certificate) % 8 ≡ 0) × (length (now certificate) ≤ 24576) × ((ws : List Weight) × Weights-at (now certificate) from W-weight ws) × (before ≡ 0 → now table ≡ replicate 576 0) × (0 < before → ((vs : List Weight) × Weights-at (now certificate) before W-weight vs × Table-is (now table) vs)) ⌝ }
+    ensures { λ r. ⌜ ((ws : List Weight) → Weights-at (now (certificate .entry)) from W-weight ws → (r ≡ from + length ws) × Table-is (now (table .exit)) ws) ⌝ }
+{
+    if before == 0 {
+        return crate::weighing::fill(certificate, from, b'W', table);
+    }
+    crate::weighing::clear(certificate, before, b'W', table);
+    crate::weighing::fill(certificate, from, b'W', table)
+}
+
+// The pairs from record `from` on under the table and the M records from record `middle` on, and what they and the rules come to.
+fn judge_marked(
+    certificate: &[u8],
+    from: usize,
+    count: usize,
+    middle: usize,
+    verdict: Verdict,
+    arities: &[u8],
+    marked: &mut [u16],
+    table: &[u16],
+    starts: &[u16],
+    nodes: &[u8],
+    marks: &[u8],
+    rules: usize,
+) -> Answer
+    requires { ⌜ (length (now certificate) % 8 ≡ 0) × (length (now certificate) ≤ 24576) × Kept-pack rules (now arities) (now starts) (now nodes) (now marks) × (now marked ≡ replicate 576 0) × (length (now table) ≡ 576) × ((p : System) × (symbols : ℕ) × (qs : List Pair) × (ms : List Weight) × Stored p symbols rules (now arities) (now starts) (now nodes) (now marks) × All-pairs p qs × Pairs-at (now certificate) from qs × (length qs ≡ count) × Weights-at (now certificate) middle M-marked ms) ⌝ }
+    ensures { λ r. ⌜ (now (marked .exit) ≡ replicate 576 0) × ((p : System) (symbols : ℕ) (qs : List Pair) (ws ms : List Weight) → Stored p symbols rules (now (arities .entry)) (now (starts .entry)) (now (nodes .entry)) (now (marks .entry)) → All-pairs p qs → Pairs-at (now (certificate .entry)) from qs → length qs ≡ count → Weights-at (now (certificate .entry)) middle M-marked ms → Table-is (now (table .entry)) ws → outcome-of r ≡ chosen verdict (calls-verdict p qs ws ms) (middle + length ms)) ⌝ }
+{
+    let next = crate::weighing::fill(certificate, middle, b'M', marked);
+    let c = crate::weighing::judge_pairs(
+        certificate,
+        from,
+        count,
+        arities,
+        marked,
+        table,
+        starts,
+        nodes,
+        marks,
+        rules,
+    );
+    crate::weighing::clear(certificate, middle, b'M', marked);
+    choose(verdict, c, next)
+}
+
+// A component with a weighting, whose C record is record `at`: 11, 12, 13. Answers the record after it. The rules are not judged
+// again under the weights of the weighted component before, which are in the table; the table then holds those of this one.
 fn weighted(
     certificate: &[u8],
     at: usize,
     count: usize,
+    before: usize,
+    table: &mut [u16],
+    marked: &mut [u16],
     arities: &[u8],
     starts: &[u16],
     nodes: &[u8],
     marks: &[u8],
     rules: usize,
 ) -> Answer
-    requires { ⌜ (length (now certificate) % 8 ≡ 0) × (length (now certificate) ≤ 24576) × Kept-pack rules (now arities) (now starts) (now nodes) (now marks) × ((p : System) × (symbols : ℕ) × (c : Component) × Stored p symbols rules (now arities) (now starts) (now nodes) (now marks) × Component-fits p c × Component-at (now certificate) at c × (length (c .weightings) ≡ 1) × (length (c .pairs) ≡ count)) ⌝ }
-    ensures { λ r. ⌜ ((p : System) (symbols : ℕ) (c : Component) → Stored p symbols rules (now (arities .entry)) (now (starts .entry)) (now (nodes .entry)) (now (marks .entry)) → Component-fits p c → Component-at (now (certificate .entry)) at c → length (c .weightings) ≡ 1 → length (c .pairs) ≡ count → Component-judged p c at r) ⌝ }
+    requires { ⌜ (length (now certificate) % 8 ≡ 0) × (length (now certificate) ≤ 24576) × Kept-pack rules (now arities) (now starts) (now nodes) (now marks) × (now marked ≡ replicate 576 0) × ((p : System) × (symbols : ℕ) × (c : Component) × Stored p symbols rules (now arities) (now starts) (now nodes) (now marks) × Component-fits p c × Component-at (now certificate) at c × Rules-known p (now certificate) at before (now table) × (length (c .weightings) ≡ 1) × (length (c .pairs) ≡ count)) ⌝ }
+    ensures { λ r. ⌜ (now (marked .exit) ≡ replicate 576 0) × ((p : System) (symbols : ℕ) (c : Component) → Stored p symbols rules (now (arities .entry)) (now (starts .entry)) (now (nodes .entry)) (now (marks .entry)) → Component-fits p c → Component-at (now (certificate .entry)) at c → Rules-known p (now (certificate .entry)) at before (now (table .entry)) → length (c .weightings) ≡ 1 → length (c .pairs) ≡ count → Component-judged p c at r × Known-after p c (now (certificate .entry)) at before (now (table .exit))) ⌝ }
 {
-    let mut table = [0u16; 576];
-    let mut marked = [0u16; 576];
-    let middle = crate::weighing::fill(certificate, at + 1 + count, b'W', &mut table);
-    let next = crate::weighing::fill(certificate, middle, b'M', &mut marked);
-    let r = crate::weighing::judge_rules(arities, &table, starts, nodes, marks, rules);
-    let c = crate::weighing::judge_pairs(
+    let from = at + 1 + count;
+    let same = crate::weighing::same_weights(certificate, before, from);
+    if 0 < same {
+        return judge_marked(
+            certificate,
+            at + 1,
+            count,
+            same,
+            Verdict::Holds,
+            arities,
+            marked,
+            table,
+            starts,
+            nodes,
+            marks,
+            rules,
+        );
+    }
+    let middle = refill(certificate, before, from, table);
+    let r = crate::weighing::judge_rules(arities, table, starts, nodes, marks, rules);
+    judge_marked(
         certificate,
         at + 1,
         count,
+        middle,
+        r,
         arities,
-        &marked,
-        &table,
+        marked,
+        table,
         starts,
         nodes,
         marks,
         rules,
-    );
-    choose(r, c, next)
+    )
 }
 
 // A component without a weighting: 10. Answers the record after it.
@@ -92,14 +164,17 @@ fn unweighted(
 fn judge_component(
     certificate: &[u8],
     at: usize,
+    before: usize,
+    table: &mut [u16],
+    marked: &mut [u16],
     arities: &[u8],
     starts: &[u16],
     nodes: &[u8],
     marks: &[u8],
     rules: usize,
 ) -> Answer
-    requires { ⌜ (length (now certificate) % 8 ≡ 0) × (length (now certificate) ≤ 24576) × Kept-pack rules (now arities) (now starts) (now nodes) (now marks) × ((p : System) × (symbols : ℕ) × (c : Component) × Stored p symbols rules (now arities) (now starts) (now nodes) (now marks) × Component-fits p c × Component-at (now certificate) at c) ⌝ }
-    ensures { λ r. ⌜ ((p : System) (symbols : ℕ) (c : Component) → Stored p symbols rules (now (arities .entry)) (now (starts .entry)) (now (nodes .entry)) (now (marks .entry)) → Component-fits p c → Component-at (now (certificate .entry)) at c → Component-judged p c at r) ⌝ }
+    requires { ⌜ (length (now certificate) % 8 ≡ 0) × (length (now certificate) ≤ 24576) × Kept-pack rules (now arities) (now starts) (now nodes) (now marks) × (now marked ≡ replicate 576 0) × ((p : System) × (symbols : ℕ) × (c : Component) × Stored p symbols rules (now arities) (now starts) (now nodes) (now marks) × Component-fits p c × Component-at (now certificate) at c × Rules-known p (now certificate) at before (now table)) ⌝ }
+    ensures { λ r. ⌜ (now (marked .exit) ≡ replicate 576 0) × ((p : System) (symbols : ℕ) (c : Component) → Stored p symbols rules (now (arities .entry)) (now (starts .entry)) (now (nodes .entry)) (now (marks .entry)) → Component-fits p c → Component-at (now (certificate .entry)) at c → Rules-known p (now (certificate .entry)) at before (now (table .entry)) → Component-judged p c at r × Known-after p c (now (certificate .entry)) at before (now (table .exit))) ⌝ }
 {
     let r = records::record_at(certificate, 8 * at);
     if r.b == 0 {
@@ -109,12 +184,27 @@ fn judge_component(
         certificate,
         at,
         r.c as usize,
+        before,
+        table,
+        marked,
         arities,
         starts,
         nodes,
         marks,
         rules,
     )
+}
+
+// Where the W records of the last weighted component begin, once the component at record `at` has passed.
+fn last_weights(certificate: &[u8], at: usize, before: usize) -> usize
+    requires { ⌜ (length (now certificate) ≤ 24576) × ((c : Component) × Component-at (now certificate) at c) ⌝ }
+    ensures { λ r. ⌜ ((c : Component) → Component-at (now (certificate .entry)) at c → r ≡ last-weights c at before) ⌝ }
+{
+    let r = records::record_at(certificate, 8 * at);
+    if r.b == 0 {
+        return before;
+    }
+    at + 1 + r.c as usize
 }
 
 // All components: the first refusal.
@@ -130,14 +220,29 @@ pub fn judge_components(
     requires { ⌜ (length (now certificate) % 8 ≡ 0) × (length (now certificate) ≤ 24576) × Kept-pack rules (now arities) (now starts) (now nodes) (now marks) × ((p : System) × Components-from p (now certificate) components rules (now arities) (now starts) (now nodes) (now marks)) ⌝ }
     ensures { λ r. ⌜ ((p : System) (a : Components-from p (now (certificate .entry)) components rules (now (arities .entry)) (now (starts .entry)) (now (nodes .entry)) (now (marks .entry))) → refusal (outcome-of r) ≡ components-refusal p (plain p) (a .all)) ⌝ }
 {
+    let mut table = [0u16; 576];
+    let mut marked = [0u16; 576];
+    let mut before = 0;
     let mut at = 0;
     let mut i = 0;
     while i < components {
-        match judge_component(certificate, at, arities, starts, nodes, marks, rules) {
+        match judge_component(
+            certificate,
+            at,
+            before,
+            &mut table,
+            &mut marked,
+            arities,
+            starts,
+            nodes,
+            marks,
+            rules,
+        ) {
             Answer::Refused(x) => {
                 return Answer::Refused(x);
             }
             Answer::Passed(next) => {
+                before = last_weights(certificate, at, before);
                 at = next;
             }
         }

@@ -1,18 +1,20 @@
 // The weights of a component in dense tables, and all rules and its pairs under them.
+use records::Record;
 use weights::Verdict;
 ghost use mathlib.Core.Path.{_≡_};
-ghost use mathlib.Core.Bool.{not};
+ghost use mathlib.Core.Bool.{true, not};
 ghost use mathlib.Core.List.{List};
 ghost use Prim.Native.Nat.{ℕ, _+_, _%_, _≤_, _<_};
 ghost use lib.ListN.{length, replicate};
 ghost use Rattle.rewriting.specs.Terms.{System};
 ghost use Rattle.rewriting.specs.Pairs.{Pair};
+ghost use Rattle.records.specs.Order.{W-weight};
 ghost use Rattle.packs.specs.Stored.{Stored};
 ghost use Rattle.weights.specs.Polynomials.{Weight};
 ghost use Rattle.weights.specs.Judging.{any, is-none, without, rule-over, rule-rises, call-over, call-falls};
 ghost use Rattle.weights.specs.Working.{Table-is, verdict};
 ghost use Rattle.checker.specs.Judge.{calls};
-ghost use Rattle.checker.specs.Working.{Kept-pack, Weights-at, Pairs-at, All-pairs};
+ghost use Rattle.checker.specs.Working.{Kept-pack, Weights-at, Same-weights, Pairs-at, All-pairs};
 
 // Fills a table from the weight records of a kind that stand from record `from` on. Answers the record after them.
 pub fn fill(certificate: &[u8], from: usize, kind: u8, table: &mut [u16]) -> usize
@@ -32,6 +34,74 @@ pub fn fill(certificate: &[u8], from: usize, kind: u8, table: &mut [u16]) -> usi
         at = at + 1;
     }
     at
+}
+
+// Clears a table by the weight records that filled it, which stand from record `from` on.
+pub fn clear(certificate: &[u8], from: usize, kind: u8, table: &mut [u16])
+    requires { ⌜ ((ws : List Weight) × Weights-at (now certificate) from kind ws × Table-is (now table) ws) ⌝ }
+    ensures { λ _. ⌜ now (table .exit) ≡ replicate 576 0 ⌝ }
+{
+    let n = certificate.len() / 8;
+    let mut at = from;
+    while at < n {
+        let r = records::record_at(certificate, 8 * at);
+        if r.kind != kind {
+            return;
+        }
+        let f = r.a as usize;
+        let i = r.b as usize;
+        table[9 * f + i] = 0;
+        at = at + 1;
+    }
+}
+
+// Whether two records are of one kind and have the same numbers.
+fn same_record(x: Record, y: Record) -> bool
+    ensures { λ r. ⌜ (r ≡ true → (x .kind ≡ y .kind) × (x .a ≡ y .a) × (x .b ≡ y .b) × (x .c ≡ y .c)) ⌝ }
+{
+    if x.kind != y.kind {
+        return false;
+    }
+    if x.a != y.a {
+        return false;
+    }
+    if x.b != y.b {
+        return false;
+    }
+    if x.c != y.c {
+        return false;
+    }
+    true
+}
+
+// Compares the W records from record `from` on with those from record `before` on. Answers the record after them, or 0 where they
+// differ, where they end the file, and where `before` is 0, which stands for none.
+pub fn same_weights(certificate: &[u8], before: usize, from: usize) -> usize
+    requires { ⌜ before < from ⌝ }
+    ensures { λ r. ⌜ (0 < r → (0 < before) × ((vs ws : List Weight) → Weights-at (now (certificate .entry)) before W-weight vs → Weights-at (now (certificate .entry)) from W-weight ws → Same-weights vs ws from r)) ⌝ }
+{
+    if before == 0 {
+        return 0;
+    }
+    let n = certificate.len() / 8;
+    let mut i = before;
+    let mut at = from;
+    while at < n {
+        let x = records::record_at(certificate, 8 * i);
+        let y = records::record_at(certificate, 8 * at);
+        if x.kind != b'W' {
+            if y.kind != b'W' {
+                return at;
+            }
+            return 0;
+        }
+        if !same_record(x, y) {
+            return 0;
+        }
+        i = i + 1;
+        at = at + 1;
+    }
+    0
 }
 
 // All rules: over if one is, else failing if one fails.

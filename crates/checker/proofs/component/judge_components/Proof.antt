@@ -1,5 +1,5 @@
 -- `checker::component::judge_components` meets its contract. The loop's invariant: the records of the components from component i on
--- stand from record `at` on, and their number is the number of all.
+-- stand from record `at` on, their number is the number of all, and what is known of the rules under the last weights.
 use mathlib.Core.Path.{_≡_, refl, sym, ap, _∙_}
 use mathlib.Core.Bool.{Bool, true, false, cond}
 use mathlib.Core.List.{List, _∷_}
@@ -8,8 +8,9 @@ use native.Mathlib.Numerals.{add-one}
 use native.Mathlib.Omega.{arith}
 use borrow.Author.Needs.{needs}
 use lib.Dec.{eqb}
-use lib.ListN.{length, getD, drop, drop-of-length-le}
+use lib.ListN.{length, getD, drop, replicate, drop-of-length-le}
 use lib.Seq.{drop-cons}
+use borrow.Author.Tests.{eqb-true}
 use Rattle.rewriting.specs.Terms.{System}
 use Rattle.records.specs.declared.Answer.{Answer}
 use Rattle.records.specs.declared.Answer.the-variants.{Passed, Refused}
@@ -20,8 +21,9 @@ use Rattle.records.specs.Records.{all-records}
 use Rattle.certificates.specs.Components.{Component, no-component}
 use Rattle.certificates.specs.Encoding.{component-records}
 use Rattle.checker.specs.Judge.{plain, component-refusal, components-refusal}
-use Rattle.checker.specs.Working.{Component-at, Component-fits, Component-judged, Components-from, record-count}
+use Rattle.checker.specs.Working.{Component-at, Component-fits, Component-judged, Rules-known, last-weights, Known-after, Components-from, record-count}
 use Rattle.checker.proofs.Positions.{next-component}
+use Rattle.checker.proofs.Known.{none-known, table-long}
 use Rattle.checker.proofs.component.judge_components.Statement.{statement}
 use Rattle.checker.proofs.component.judge_components.Tie as tie
 
@@ -31,12 +33,14 @@ pub record Components-left (p : System) (cert : List ℕ) (all : List Component)
   pub number : components-refusal p (plain p) all ≡ components-refusal p (plain p) (drop i all)
 
 abbrev Inv-loop : tie.InvT-loop
-Inv-loop certificate components rules arities starts nodes marks at₀ i₀ at i =
+Inv-loop certificate components rules arities starts nodes marks table₀ marked₀ before₀ at₀ i₀ table marked before at i =
     (i ≤ components)
-    × ((p : System) (a : Components-from p certificate components rules arities starts nodes marks) → Components-left p certificate (a .all) at i)
+    × (marked ≡ replicate 576 0)
+    × ((p : System) (a : Components-from p certificate components rules arities starts nodes marks) →
+    Components-left p certificate (a .all) at i × Rules-known p certificate at before table)
 
 abbrev μ-loop : tie.MeasureT-loop
-μ-loop certificate components rules arities starts nodes marks at₀ i₀ at i = components - i
+μ-loop certificate components rules arities starts nodes marks table₀ marked₀ before₀ at₀ i₀ table marked before at i = components - i
 
 -- what a component's answer tells of its number
 answer-refused : (b : Bool) (m n k : ℕ) → refused k ≡ cond b (passed m) (refused n) → (b ≡ false) × (k ≡ n)
@@ -56,68 +60,110 @@ module _
 
   -- component i
   module _ (h : i < components) where
-    abbrev c : Component
-    c = getD (a .all) i no-component
+    abbrev component : Component
+    component = getD (a .all) i no-component
 
     in-range : i < length (a .all)
     in-range = omega (arith, a .counted)
 
-    fits : Component-fits p c
+    fits : Component-fits p component
     fits = a .fit i in-range
 
-    others : drop i (a .all) ≡ c ∷ drop (suc i) (a .all)
+    others : drop i (a .all) ≡ component ∷ drop (suc i) (a .all)
     others = drop-cons (a .all) i no-component in-range
 
-    here : Component-at cert at c
+    here : Component-at cert at component
     here = record { i = i; others = drop (suc i) (a .all); are = left .are ∙ ap (component-records i) others }
 
     number-here : components-refusal p (plain p) (a .all)
-        ≡ cond (eqb (component-refusal p (plain p) c) 0) (components-refusal p (plain p) (drop (suc i) (a .all))) (component-refusal p (plain p) c)
+        ≡ cond (eqb (component-refusal p (plain p) component) 0) (components-refusal p (plain p) (drop (suc i) (a .all))) (component-refusal p (plain p) component)
     unfolding components-refusal
     number-here = left .number ∙ ap (components-refusal p (plain p)) others
 
-    module _ {r : Answer} (judged : Component-fits p c → Component-at cert at c → Component-judged p c at r) where
+    module _ {r : Answer} (judged : Component-fits p component → Component-at cert at component → Component-judged p component at r) where
       refuses : (x : Refusal) → r ≡ Refused x → number-of x ≡ components-refusal p (plain p) (a .all)
       unfolding Component-judged
       refuses x e =
-          let n = component-refusal p (plain p) c in
-          let is = answer-refused (eqb n 0) (at + record-count c) n (number-of x) (ap outcome-of (sym e) ∙ judged fits here) in
+          let n = component-refusal p (plain p) component in
+          let is = answer-refused (eqb n 0) (at + record-count component) n (number-of x) (ap outcome-of (sym e) ∙ judged fits here) in
           is .1 ∙ sym (number-here ∙ rw (is .0))
 
       passes : (next : ℕ) → r ≡ Passed next → Components-left p cert (a .all) next (i + 1)
       unfolding Component-judged here
       passes next e =
-          let n = component-refusal p (plain p) c in
-          let is = answer-passed (eqb n 0) (at + record-count c) n next (ap outcome-of (sym e) ∙ judged fits here) in
+          let n = component-refusal p (plain p) component in
+          let is = answer-passed (eqb n 0) (at + record-count component) n next (ap outcome-of (sym e) ∙ judged fits here) in
           rw (is .1, add-one)
-          (record { are = next-component cert at c here; number = number-here ∙ rw (is .0) })
+          (record { are = next-component cert at component here; number = number-here ∙ rw (is .0) })
+
+      passes-known : (before : ℕ) {last : ℕ} {table : List ℕ} → Known-after p component cert at before table → ((d : Component) → Component-at cert at d → last ≡ last-weights d at before) →
+          (next : ℕ) → r ≡ Passed next → Rules-known p cert next last table
+      unfolding Component-judged Known-after
+      passes-known before after begins next e =
+          let n = component-refusal p (plain p) component in
+          let is = answer-passed (eqb n 0) (at + record-count component) n next (ap outcome-of (sym e) ∙ judged fits here) in
+          rw (is .1, begins component here) (after (eqb-true n 0 (is .0)))
+
+abbrev start : tie.At-loop Inv-loop μ-loop → tie.Start Inv-loop μ-loop
+start c = c .before .before .before .before .before .before
+
+-- the table as a slice
+table-lent : tie.Need-slice-aggregate-judge-component Inv-loop μ-loop
+table-lent c =
+    let l = c .before .before .loop in
+    let asked = start (c .before .before) .pre .3 in
+    sym (table-long (l .before) (l .inv .2 (asked .0) (asked .1) .1))
 
 requires : tie.Need-judge-component-requires Inv-loop μ-loop
 requires c κs =
-    let l = c .before .loop in
-    let start = c .before .before .before .before .before .before .before in
-    let p = start .pre .3 .0 in
-    let a = start .pre .3 .1 in
-    let h = c .loop-test .taken in
-    let left = l .inv .1 p a in
-    (start .pre .0, start .pre .1, start .pre .2, (p, a .symbols, _, a .stored, fits a (l .at) (l .i) left h, here a (l .at) (l .i) left h))
+    let turn = c .before .before in
+    let l = turn .before .loop in
+    let asked = start (turn .before) .pre in
+    let p = asked .3 .0 in
+    let a = asked .3 .1 in
+    let h = turn .loop-test .taken in
+    let left = l .inv .2 p a .0 in (
+      asked .0,
+      asked .1,
+      asked .2,
+      l .inv .1,
+      (p, a .symbols, _, a .stored, fits a (l .at) (l .i) left h, here a (l .at) (l .i) left h, l .inv .2 p a .1),
+    )
 
 returns : tie.Need-returns Inv-loop μ-loop
 returns c =
-    let called = c .before .before .before in
-    let l = called .before .before .loop in
+    let called = c .before .before .before .before .before in
+    let turn = called .before .before .before in
+    let l = turn .before .loop in
     λ p a.
-    refuses a (l .at) (l .i) (l .inv .1 p a) (called .before .loop-test .taken) (called .judge-component .ensures p (a .symbols) _ (a .stored)) _
-    (c .before .x .given .1)
+    refuses a (l .at) (l .i) (l .inv .2 p a .0) (turn .loop-test .taken)
+    (λ f h. called .judge-component .ensures .1 p (a .symbols) _ (a .stored) f h (l .inv .2 p a .1) .0) _ (c .before .x .given .1)
+
+last-weights-requires : tie.Need-last-weights-requires Inv-loop μ-loop
+last-weights-requires c κs =
+    let turn = c .before .before .before .before .before .before .before .before in
+    let l = turn .before .loop in
+    let asked = start (turn .before) .pre in
+    let a = asked .3 .1 in
+    (asked .1, (_, here a (l .at) (l .i) (l .inv .2 (asked .3 .0) a .0) (turn .loop-test .taken)))
 
 again : tie.Need-loop-again Inv-loop μ-loop
 again c =
-    let called = c .before .before .before in
-    let l = called .before .before .loop in (
+    let passed = c .before .before in
+    let called = passed .before .before .before .before in
+    let turn = called .before .before .before in
+    let l = turn .before .loop in
+    let h = turn .loop-test .taken in (
       omega arith,
+      called .judge-component .ensures .0,
       λ p a.
-          passes a (l .at) (l .i) (l .inv .1 p a) (called .before .loop-test .taken) (called .judge-component .ensures p (a .symbols) _ (a .stored)) _
-          (c .before .next .given .1),
+          let left = l .inv .2 p a .0 in
+          let known = l .inv .2 p a .1 in
+          let judged = called .judge-component .ensures .1 p (a .symbols) (component a (l .at) (l .i) left h) (a .stored) in (
+            passes a (l .at) (l .i) left h (λ f k. judged f k known .0) _ (passed .next .given .1),
+            passes-known a (l .at) (l .i) left h (λ f k. judged f k known .0) _
+                (judged (fits a (l .at) (l .i) left h) (here a (l .at) (l .i) left h) known .1) (c .last-weights .ensures) _ (passed .next .given .1),
+          ),
     )
 
 pub judge-components-spec : {M : Type 1} → statement M
@@ -126,12 +172,15 @@ judge-components-spec =
     (tie.spec
     Inv-loop
     μ-loop
-    (λ c. (omega arith, λ p a. record { are = a .are; number = refl }))
+    (λ c. (omega arith, refl, λ p a. (record { are = a .are; number = refl }, none-known p _)))
+    table-lent
+    (λ c. search needs)
     requires
     (λ c. search needs)
     returns
     (λ c. search needs)
+    last-weights-requires
     (λ c. omega arith)
     (λ c. omega arith)
     again
-    (λ c. let l = c .before .loop in λ p a. none-left a (l .at) (l .i) (l .inv .1 p a) (c .loop-test .left)))
+    (λ c. let l = c .before .loop in λ p a. none-left a (l .at) (l .i) (l .inv .2 p a .0) (c .loop-test .left)))
