@@ -23,7 +23,7 @@ use Rattle.weights.proofs.Meaning.{sixteen, rooted-sixteen, scaled-leng
 use Rattle.weights.proofs.LimitMeans.{not-over}
 use Rattle.weights.proofs.Working.{rooted-plain, rooted-over-plain, sides-verdict, neither-over}
 use Rattle.weights.proofs.Arguments.{Arguments, node-within, root-variable, root-symbol}
-use Rattle.weights.proofs.Weighing.{Sum-so-far, sums-none, sums-more, sums-all, sums-limit, no-arguments, first-split, first-argument}
+use Rattle.weights.proofs.Weighing.{variable-read, Sum-so-far, sums-none, sums-more, sums-all, sums-limit, no-arguments, first-split, first-argument}
 
 -- SUMS
 
@@ -265,6 +265,21 @@ module _
                 (rw (head .are) at (u .half rs ws a b))
                 (rw k at (means ws ws b b)));
           }
+
+      -- it is a variable
+      pub variable-argument :
+          (d : 64 ≤ getD nodes next 0) → length sums ≡ 17 → f < 64 → n ≤ 8 →
+          Ungathered arities nodes at left w root table f n factor before
+          (set sums (getD nodes next 0 - 64) (getD sums (getD nodes next 0 - 64) 0 + factor * getD root (9 * f + 1 + i) 0))
+          (total + getD root (9 * f + 1 + i) 0) (next + 1) (i + 1)
+      variable-argument d long low few =
+          let v = root-variable arities nodes next (left - 1) argument-next d in
+          let once : total + getD root (9 * f + 1 + i) 0 * 1 ≡ total + getD root (9 * f + 1 + i) 0 = omega arith in
+          rw once at
+          (argument-gathered _ 1 (next + 1)
+          (λ rs ws a b. variable-gathered _ (argument-next .term) (v .0) (v .1) rs ws _ sums long)
+          (variable-read _ (argument-next .term) (v .0) next)
+          low few)
 
     -- none is left
     module _ (done : n ≤ i) where

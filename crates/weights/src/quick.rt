@@ -59,12 +59,20 @@ pub fn gather(
                 total,
             };
         }
-        let part = gather(arities, table, table, nodes, next, left - 1, below, sums);
-        if !part.through {
-            return part;
+        // A variable needs no call.
+        let d = nodes[next] as usize;
+        if 64 <= d {
+            sums[d - 64] = sums[d - 64] + below;
+            total = total + weight;
+            next = next + 1;
+        } else {
+            let part = gather(arities, table, table, nodes, next, left - 1, below, sums);
+            if !part.through {
+                return part;
+            }
+            total = total + weight * part.total;
+            next = part.next;
         }
-        total = total + weight * part.total;
-        next = part.next;
         i = i + 1;
     }
     if 4294967295 < total {

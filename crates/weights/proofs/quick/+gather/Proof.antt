@@ -2,6 +2,7 @@
 -- the sums have room, and they come to the factor times the term's polynomial together with the arguments still to be gathered.
 use mathlib.Core.Path.{_≡_, refl, sym, _∙_}
 use mathlib.Core.Bool.{true, false, false≢true}
+use mathlib.Core.Logic.{⊎-elim}
 use mathlib.Core.List.{List}
 use Prim.Native.Nat.{ℕ, _+_, _*_, _-_, _≤_, _<_}
 use native.Mathlib.Omega.{arith}
@@ -16,7 +17,7 @@ use Rattle.weights.specs.Limit.{limit}
 use Rattle.weights.specs.Working.{Weighable, Room}
 use Rattle.weights.proofs.Arguments.{node-within, root-variable, root-symbol}
 use Rattle.weights.proofs.Weighing.{variable-read}
-use Rattle.weights.proofs.Gathering.{part-of, weight-part, room-after, with-own, variable-gathered, Ungathered, ungathered-all, argument-next, argument-gathered, all-gone, all-gathered}
+use Rattle.weights.proofs.Gathering.{part-of, weight-part, room-after, with-own, variable-gathered, Ungathered, ungathered-all, argument-next, argument-gathered, variable-argument, all-gone, all-gathered}
 use Rattle.weights.proofs.quick.gather.Reads as gather
 use Rattle.weights.proofs.quick.gather.Kinds as gather-kinds
 use Rattle.weights.proofs.quick.+gather.Lts-gather as lts
@@ -101,7 +102,7 @@ module _ (t : ℕ) where
   write-slot : lts.Need-slice-write-sums (called t) (given t) gather.Post Inv-loop μ-loop
   write-slot c = omega (arith, slot-low (c .before), from-node (c .before .before) .pre .1 .5 .long)
 
-  after-variable : lts.Need-add-t22 (called t) (given t) gather.Post Inv-loop μ-loop
+  after-variable : lts.Need-add-t23 (called t) (given t) gather.Post Inv-loop μ-loop
   after-variable c =
       let p = from-node (c .before .before) .pre .1 in
       omega (arith, p .3, node-within _ _ _ _ (p .6) .0)
@@ -191,69 +192,136 @@ module _ (t : ℕ) where
       let l = c .before .before in
       omega (arith, part-of (from-head l .args .factor) (getD (from-head l .args .root .now) (place l) 0) (from-head l .pre .1 .4) (omega (arith, c .shared-slice-known7 .given (place l))))
 
+  -- the argument that is next
+  abbrev Next : Type 0
+  Next = lts.After-shared-slice-known8 (called t) (given t) gather.Post Inv-loop μ-loop
+
+  abbrev from-next : Next → Head
+  from-next c = c .before .before .before .before
+
+  argument : (c : Next) → Weighable (from-head (from-next c) .args .arities .now) (from-head (from-next c) .args .nodes .now) (from-next c .loop .next) (from-head (from-next c) .args .left - 1)
+  argument c =
+      let l = from-next c in
+      let p = from-head l .pre .1 in
+      argument-next _ _ _ _ (p .6) _ _ _ _ (p .5 .long) _ _ _ _ _ _ (l .loop .inv .5 (p .6) (from-head l .args .sums .now) (p .5 .long) refl)
+      (c .before .before .before .loop-test .taken)
+
+  abbrev next-byte : Next → ℕ
+  next-byte c = getD (from-head (from-next c) .args .nodes .now) (from-next c .loop .next) 0
+
+  weight-small : (c : Next) → getD (from-head (from-next c) .args .root .now) (place (from-next c)) 0 ≤ 65535
+  weight-small c = omega (arith, c .before .before .shared-slice-known7 .given (place (from-next c)))
+
+  read-next : lts.Need-shared-slice-read-d (called t) (given t) gather.Post Inv-loop μ-loop
+  read-next c = node-within _ _ _ _ (argument c) .0
+
+  cast-next : lts.Need-cast-d (called t) (given t) gather.Post Inv-loop μ-loop
+  cast-next c = omega (arith, c .shared-slice-known8 .given (from-next c .loop .next))
+
+  -- it is a variable
+  next-low : (c : lts.Then3 (called t) (given t) gather.Post Inv-loop μ-loop) → next-byte (c .before) - 64 < 16
+  next-low c = root-variable _ _ _ _ (argument (c .before)) (c .if3 .taken) .1
+
+  read-next-slot : lts.Need-slice-read-sums-3 (called t) (given t) gather.Post Inv-loop μ-loop
+  read-next-slot c = omega (arith, next-low (c .before), from-next (c .before .before) .loop .inv .3 .long)
+
+  add-next-slot : lts.Need-add-sums-3 (called t) (given t) gather.Post Inv-loop μ-loop
+  add-next-slot c =
+      let l = from-next (c .before .before) in
+      omega (
+        arith,
+        l .loop .inv .3 .small (next-byte (c .before .before) - 64) (let h = next-low (c .before) in omega arith),
+        from-head l .pre .1 .3,
+        node-within _ _ _ _ (argument (c .before .before)) .0,
+        c .before .before .before .if2 .left,
+      )
+
+  write-next-slot : lts.Need-slice-write-sums-3 (called t) (given t) gather.Post Inv-loop μ-loop
+  write-next-slot c = omega (arith, next-low (c .before), from-next (c .before .before) .loop .inv .3 .long)
+
+  add-weight : lts.Need-add-total (called t) (given t) gather.Post Inv-loop μ-loop
+  add-weight c =
+      let l = from-next (c .before .before) in
+      omega (arith, weight-small (c .before .before), l .loop .inv .4, l .loop .inv .1, l .loop .inv .2)
+
+  after-next : lts.Need-add-next-2 (called t) (given t) gather.Post Inv-loop μ-loop
+  after-next c =
+      omega (arith, from-head (from-next (c .before .before)) .pre .1 .3, node-within _ _ _ _ (argument (c .before .before)) .0)
+
+  -- it is a symbol's
   left-positive : lts.Need-sub-gather (called t) (given t) gather.Post Inv-loop μ-loop
-  left-positive c = node-within _ _ _ _ (from-head (c .before .before .before) .pre .1 .6) .1
+  left-positive c = node-within _ _ _ _ (from-head (from-next (c .before)) .pre .1 .6) .1
 
   gather-requires : lts.Need-gather-requires (called t) (given t) gather.Post Inv-loop μ-loop
   gather-requires c κs =
-      let l = c .before .before .before .before in
-      let p = from-head l .pre in
-      let w = p .1 .6 in (
-        omega (arith, p .0, node-within _ _ _ _ w .1),
-        (
-          p .1 .0,
-          p .1 .2,
-          p .1 .2,
-          p .1 .3,
-          c .before .if2 .left,
-          l .loop .inv .3,
-          argument-next _ _ _ _ w _ _ _ _ (p .1 .5 .long) _ _ _ _ _ _ (l .loop .inv .5 w (from-head l .args .sums .now) (p .1 .5 .long) refl) (c .before .before .before .loop-test .taken),
-        ),
+      let here = c .before .before in
+      let l = from-next here in
+      let p = from-head l .pre in (
+        omega (arith, p .0, node-within _ _ _ _ (p .1 .6) .1),
+        (p .1 .0, p .1 .2, p .1 .2, p .1 .3, here .before .if2 .left, l .loop .inv .3, argument here),
       )
 
-  -- the argument's total, times its weight
+  -- its total, times its weight
   part-small :
-      (c : lts.After-struct-known2 (called t) (given t) gather.Post Inv-loop μ-loop) →
+      (c : Next) (total : ℕ) → total ≤ 4294967295 → getD (from-head (from-next c) .args .root .now) (place (from-next c)) 0 * total ≤ 281470681677825
+  part-small c total h = weight-part (getD (from-head (from-next c) .args .root .now) (place (from-next c)) 0) total (weight-small c) h
+
+  abbrev Gone : Type 0
+  Gone = lts.After-struct-known2 (called t) (given t) gather.Post Inv-loop μ-loop
+
+  part-of-total :
+      (c : Gone) →
       let done = c .before .before .before .before .before in
-      let l = done .before .before .before .before .before in
-      getD (from-head l .args .root .now) (place l) 0 * done .gather .result .total ≤ 281470681677825
-  part-small c =
+      let here = done .before .before .before in
+      getD (from-head (from-next here) .args .root .now) (place (from-next here)) 0 * done .gather .result .total ≤ 281470681677825
+  part-of-total c =
       let done = c .before .before .before .before .before in
-      let l = done .before .before .before .before .before in
-      weight-part (getD (from-head l .args .root .now) (place l) 0) _
-      (omega (arith, done .before .before .before .shared-slice-known7 .given (place l)))
-      (done .gather .ensures .0 (not-false _ (c .before .if3 .left)) .0)
+      part-small (done .before .before .before) _ (done .gather .ensures .0 (not-false _ (c .before .if4 .left)) .0)
 
   mul-total : lts.Need-mul-total (called t) (given t) gather.Post Inv-loop μ-loop
-  mul-total c = omega (arith, part-small c)
+  mul-total c = omega (arith, part-of-total c)
 
-  add-total : lts.Need-add-total (called t) (given t) gather.Post Inv-loop μ-loop
+  add-total : lts.Need-add-total-2 (called t) (given t) gather.Post Inv-loop μ-loop
   add-total c =
-      let l = c .before .before .before .before .before .before .before .before .before .before in
-      omega (arith, part-small c, l .loop .inv .4, l .loop .inv .1, l .loop .inv .2)
+      let l = from-next (c .before .before .before .before .before .before .before .before) in
+      omega (arith, part-of-total c, l .loop .inv .4, l .loop .inv .1, l .loop .inv .2)
 
   again : lts.Need-loop-again (called t) (given t) gather.Post Inv-loop μ-loop
   again c =
-      let done = c .before .before .before .before .before in
-      let l = done .before .before .before .before .before in
-      let p = from-head l .pre .1 in
-      let more = done .before .before .before .before .loop-test .taken in
-      let part = done .gather in
-      let through : part .result .through ≡ true = not-false _ (c .before .if3 .left) in (
+      let here = c .before in
+      let l = from-next here in
+      let more = here .before .before .before .loop-test .taken in
+      ⊎-elim
+      (λ z.
+      let low = root-variable _ _ _ _ (argument here) (z .0 .taken) .1 in (
         l .loop .inv .0,
         l .loop .inv .1,
         omega (arith, more),
-        part .ensures .0 through .1,
-        omega (arith, l .loop .inv .4, part-small c),
+        rw (z .2, z .4) (room-after _ _ _ _ (l .loop .inv .3) (omega (arith, low)) (omega (arith, here .before .if2 .left))),
+        rw (z .3) (omega (arith, l .loop .inv .4, weight-small here)),
+        λ w before long e.
+            rw (z .2, z .3, z .4)
+            (variable-argument _ _ _ _ w _ _ _ _ long _ _ _ _ _ _ (l .loop .inv .5 w before long e) more (z .0 .taken) (l .loop .inv .3 .long) (l .loop .inv .0) (l .loop .inv .1)),
+      ))
+      (λ z.
+      let part = z .2 in
+      let through : part .result .through ≡ true = not-false _ (z .6 .left) in (
+        l .loop .inv .0,
+        l .loop .inv .1,
+        omega (arith, more),
+        rw (z .8, z .10) (part .ensures .0 through .1),
+        rw (z .9) (omega (arith, l .loop .inv .4, part-small here _ (part .ensures .0 through .0))),
         λ w before long e.
             let u = l .loop .inv .5 w before long e in
             let v = argument-next _ _ _ _ w _ _ _ _ long _ _ _ _ _ _ u more in
-            argument-gathered _ _ _ _ w _ _ _ _ long _ _ _ _ _ _ u more _ _ _
+            rw (z .8, z .9, z .10)
+            (argument-gathered _ _ _ _ w _ _ _ _ long _ _ _ _ _ _ u more _ _ _
             (λ rs ws a b. part .ensures .1 .1 v rs ws a b through)
             (part .ensures .1 .0 v through)
             (l .loop .inv .0)
-            (l .loop .inv .1),
-      )
+            (l .loop .inv .1)),
+      ))
+      (c .if3 .came)
 
   -- ALL ARGUMENTS
 
@@ -266,10 +334,10 @@ module _ (t : ℕ) where
       let l = c .before .before in
       let p = from-head l .pre .1 in
       let done = c .before .loop-test .left in (
-        λ _. (c .if4 .left, l .loop .inv .3),
+        λ _. (c .if5 .left, l .loop .inv .3),
         (
           λ w _. all-gone _ _ _ _ w _ _ _ _ (p .5 .long) _ _ _ _ _ _ (l .loop .inv .5 w (from-head l .args .sums .now) (p .5 .long) refl) done,
-          λ w rs ws a b _. all-gathered _ _ _ _ w _ _ _ _ (p .5 .long) _ _ _ _ _ _ (l .loop .inv .5 w (from-head l .args .sums .now) (p .5 .long) refl) done (c .if4 .left) rs ws a b,
+          λ w rs ws a b _. all-gathered _ _ _ _ w _ _ _ _ (p .5 .long) _ _ _ _ _ _ (l .loop .inv .5 w (from-head l .args .sums .now) (p .5 .long) refl) done (c .if5 .left) rs ws a b,
         ),
       )
 
@@ -280,7 +348,7 @@ module _ (t : ℕ) where
 
   returns-3 : lts.Need-returns-3 (called t) (given t) gather.Post Inv-loop μ-loop
   returns-3 c =
-      let passed = not-true _ (c .if3 .taken) in (
+      let passed = not-true _ (c .if4 .taken) in (
         λ k. absurd (not-both _ k passed),
         (λ w k. absurd (not-both _ k passed), λ w rs ws a b k. absurd (not-both _ k passed)),
       )
@@ -292,7 +360,7 @@ module _ (t : ℕ) where
   same-length-3 : lts.Need-same-length-3 (called t) (given t) gather.Post Inv-loop μ-loop
   same-length-3 c =
       let done = c .before .before .before .before in
-      done .gather .kept .1 .1 .1 .1 .1 .1 .1 .0 ∙ same-length (done .before .before .before .before .before)
+      done .gather .kept .1 .1 .1 .1 .1 .1 .1 .0 ∙ same-length (from-next (done .before .before .before))
 
 pub +gather-spec : {M : Type 1} → statement M
 +gather-spec =
@@ -329,6 +397,15 @@ pub +gather-spec : {M : Type 1} → statement M
     (mul-below t)
     (λ c. same-length t (c .before .before .before))
     (returns-2 t)
+    (read-next t)
+    (cast-next t)
+    (λ c. omega (arith, next-low t c))
+    (read-next-slot t)
+    (add-next-slot t)
+    (λ c. omega (arith, next-low t (c .before)))
+    (write-next-slot t)
+    (add-weight t)
+    (after-next t)
     (left-positive t)
     (gather-requires t)
     (same-length-3 t)
