@@ -1,15 +1,15 @@
 -- The quick way: the sums of a kept term, argument by argument, come to a factor times its polynomial.
 use mathlib.Core.Path.{_≡_, refl, sym, ap, ap₂, _∙_}
-use mathlib.Core.Bool.{Bool, true, false, _&&_}
+use mathlib.Core.Bool.{Bool, false}
 use mathlib.Core.List.{List, [], _∷_, _++_}
 use Prim.Native.Nat.{ℕ, zero, suc, _+_, _*_, _-_, _≤_, _<_}
-use native.Mathlib.Nat.{add-zero, mul-le-mul-left, le-of-lt}
+use native.Mathlib.Nat.{add-zero, mul-le-mul-left}
 use native.Mathlib.Numerals.{add-one}
 use native.Mathlib.Omega.{arith}
-use lib.Dec.{eqb, leb, ltb}
+use lib.Dec.{eqb}
 use lib.ListN.{length, getD, set, replicate, length-append, length-set, getD-replicate}
-use lib.Seq.{getD-set-same, getD-set-other, getD-at}
-use borrow.Author.Tests.{eqb-true, eqb-false, ltb-true, le-leb}
+use lib.Seq.{getD-set-same, getD-set-other}
+use borrow.Author.Tests.{eqb-true, eqb-false, lt-leb, le-leb, lt-ltb, le-ltb}
 use Rattle.rewriting.specs.Terms.{Tree, var, app, nil, cons, System, is-list}
 use Rattle.rewriting.proofs.Basics.{by-test}
 use Rattle.rewriting.proofs.Trees.{term-not-list}
@@ -18,7 +18,7 @@ use Rattle.terms.specs.Kept.{code-arity}
 use Rattle.weights.specs.Polynomials.{Weight, weight, Polynomial, polynomial, no-coefficients, scaled-sum, polynomial-of, each-at-least, at-least, greater}
 use Rattle.weights.specs.Values.{total, value-of}
 use Rattle.weights.specs.Limit.{limit, over, over-limit}
-use Rattle.weights.specs.Working.{Table-is, Weighable, rooted, rooted-over, added, slots, total-of, Room, Gathered, verdict}
+use Rattle.weights.specs.Working.{Table-is, Weighable, rooted, rooted-over, added, total-of, Room, Gathered, verdict}
 use Rattle.weights.proofs.Meaning.{sixteen, rooted-sixteen, scaled-length, scaled-total, none-total, one-total}
 use Rattle.weights.proofs.LimitMeans.{not-over}
 use Rattle.weights.proofs.Working.{rooted-plain, rooted-over-plain, sides-verdict, neither-over}
@@ -40,15 +40,6 @@ one-slot k a [] s h = absurd (omega arith)
 one-slot k a (y ∷ ys) zero h = ap₂ _∷_ (omega arith) (sym (scaled-none k ys))
 one-slot k a (y ∷ ys) (suc s) h = ap₂ _∷_ (omega arith) (one-slot k a ys s (omega arith))
 
-scaled-append :
-    (k : ℕ) (xs ys : List ℕ) (a b : ℕ) → length xs ≡ length ys →
-    scaled-sum k (xs ++ (a ∷ [])) (ys ++ (b ∷ [])) ≡ scaled-sum k xs ys ++ ((b + k * a) ∷ [])
-unfolding scaled-sum
-scaled-append k [] [] a b e = ap (λ n. n ∷ []) (omega arith)
-scaled-append k [] (y ∷ ys) a b e = absurd (omega arith)
-scaled-append k (x ∷ xs) [] a b e = absurd (omega arith)
-scaled-append k (x ∷ xs) (y ∷ ys) a b e = ap (λ (l : List ℕ). (k * x + y) ∷ l) (scaled-append k xs ys a b (omega arith))
-
 scaled-twice :
     (k w : ℕ) (xs ys zs : List ℕ) → length xs ≡ length ys → length ys ≡ length zs →
     scaled-sum k (scaled-sum w xs ys) zs ≡ scaled-sum (k * w) xs (scaled-sum k ys zs)
@@ -60,22 +51,9 @@ scaled-twice k w (x ∷ xs) [] zs e l = absurd (omega arith)
 scaled-twice k w (x ∷ xs) (y ∷ ys) [] e l = absurd (omega arith)
 scaled-twice k w (x ∷ xs) (y ∷ ys) (z ∷ zs) e l = ap₂ _∷_ (omega arith) (scaled-twice k w xs ys zs (omega arith) (omega arith))
 
-set-append : (xs : List ℕ) (v a b : ℕ) → v < length xs → set xs v a ++ (b ∷ []) ≡ set (xs ++ (b ∷ [])) v a
-set-append [] v a b h = absurd (omega arith)
-set-append (x ∷ xs) zero a b h = refl
-set-append (x ∷ xs) (suc v) a b h = ap (λ (l : List ℕ). x ∷ l) (set-append xs v a b (omega arith))
-
--- SLOTS
+-- TOTALS
 
 module _ (x : Polynomial) (s : length (x .coefficients) ≡ 16) where
-  pub slots-long : length (slots x) ≡ 17
-  unfolding slots
-  slots-long = let l = length-append (x .coefficients) (x .constant ∷ []) in omega arith
-
-  slots-added : (k : ℕ) (y : Polynomial) → length (y .coefficients) ≡ 16 → slots (added k x y) ≡ scaled-sum k (slots x) (slots y)
-  unfolding slots added
-  slots-added k y e = sym (scaled-append k (x .coefficients) (y .coefficients) (x .constant) (y .constant) (s ∙ sym e))
-
   added-long : (k : ℕ) (y : Polynomial) → length (y .coefficients) ≡ 16 → length (added k x y .coefficients) ≡ 16
   unfolding added
   added-long k y e = scaled-length k (x .coefficients) (y .coefficients) (s ∙ sym e) ∙ e
@@ -102,78 +80,76 @@ total-within x h =
 
 -- ROOM
 
--- a number within the limit times a weight, either way round
-pub part-of : (k n : ℕ) → k ≤ 4294967295 → n ≤ 65535 → k * n ≤ 281470681677825
-part-of k n h l =
-    let one : k * n ≤ k * 65535 = mul-le-mul-left k l in
-    omega arith
-
+-- a weight times a number within the limit
 pub weight-part : (n k : ℕ) → n ≤ 65535 → k ≤ 4294967295 → n * k ≤ 281470681677825
 weight-part n k h l =
     let one : n * k ≤ n * 4294967295 = mul-le-mul-left n l in
     omega arith
 
-pub room-after : (n : ℕ) (sums : List ℕ) (s part : ℕ) → Room n sums → s < 17 → part ≤ 281474976710656 → Room (n + 1) (set sums s (getD sums s 0 + part))
-room-after n sums s part r h k =
+pub room-after :
+    (n : ℕ) (sums : List ℕ) (s factor : ℕ) → Room n sums → s < 16 → factor ≤ 4294967295 → Room (n + 1) (set sums s (getD sums s 0 + factor))
+room-after n sums s factor r h k =
     record {
       long = length-set sums s _ ∙ r .long;
       small = λ v b.
           by-test (eqb v s)
-          (λ e. rw (eqb-true v s e, getD-set-same sums s (getD sums s 0 + part) 0 (omega (arith, r .long))) (omega (arith, r .small s h)))
-          (λ e. rw (getD-set-other sums s v (getD sums s 0 + part) 0 (eqb-false v s e)) (omega (arith, r .small v b)));
+          (λ e. rw (eqb-true v s e, getD-set-same sums s (getD sums s 0 + factor) 0 (omega (arith, r .long))) (omega (arith, r .small s h)))
+          (λ e. rw (getD-set-other sums s v (getD sums s 0 + factor) 0 (eqb-false v s e)) (omega (arith, r .small v b)));
     }
+
+pub room-more : (n m : ℕ) (sums : List ℕ) → n ≤ m → Room n sums → Room m sums
+room-more n m sums h r =
+    record { long = r .long; small = λ v b. let l : n * 4294967296 ≤ m * 4294967296 = omega arith in omega (arith, r .small v b) }
 
 -- A VARIABLE
 
 pub variable-gathered :
-    (v : ℕ) (t : Tree) → t ≡ var v → v < 16 → (rs ws : List Weight) (factor : ℕ) (sums : List ℕ) → length sums ≡ 17 →
-    Gathered rs ws t factor 1 sums (set sums v (getD sums v 0 + factor))
-unfolding rooted rooted-over slots total-of value-of
+    (v : ℕ) (t : Tree) → t ≡ var v → v < 16 → (rs ws : List Weight) (factor : ℕ) (sums : List ℕ) → length sums ≡ 16 →
+    Gathered rs ws t factor 1 0 sums (set sums v (getD sums v 0 + factor))
+unfolding rooted rooted-over total-of value-of
 variable-gathered v t e h rs ws factor sums l =
     rw e
     (record {
       not-over = refl;
       total-is = sym (rw (one-total 16 0 v (λ u. 1) h));
+      constant-is = refl;
       sums-are =
           ap (λ n. set sums v (getD sums v 0 + n)) (let m : factor ≡ factor * 1 = omega arith in m)
           ∙ one-slot factor 1 sums v (omega arith)
-          ∙ ap (λ (xs : List ℕ). scaled-sum factor xs sums)
-          (ap (λ n. set (replicate n 0) v 1) l ∙ sym (set-append no-coefficients v 1 0 h));
+          ∙ ap (λ n. scaled-sum factor (set (replicate n 0) v 1) sums) l;
     })
 
 -- A SYMBOL
 
--- the sums with a symbol's own constant
-abbrev pub with-own : (sums : List ℕ) → (factor own : ℕ) → List ℕ
-with-own sums factor own = set sums 16 (getD sums 16 0 + factor * own)
-
 -- t is gathered, all but its last arguments ts
-pub record Half (root ws : List Weight) (f : ℕ) (t ts : Tree) (factor total i : ℕ) (before sums : List ℕ) : Type 0 where
+pub record Half (root ws : List Weight) (f : ℕ) (t ts : Tree) (factor total constant i : ℕ) (before sums : List ℕ) : Type 0 where
   pub sum : Polynomial
   pub long : length (sum .coefficients) ≡ 16
   pub so-far : Sum-so-far root ws f t ts sum i
   pub total-is : total ≡ total-of sum
-  pub sums-are : sums ≡ scaled-sum factor (slots sum) before
+  pub constant-is : constant ≡ sum .constant
+  pub sums-are : sums ≡ scaled-sum factor (sum .coefficients) before
 
-module _ (root ws : List Weight) (f factor : ℕ) (t : Tree) (before : List ℕ) (seventeen : length before ≡ 17) where
-  half-none :
-      (ts : Tree) → t ≡ app f ts → (own : ℕ) → own ≡ weight root f 0 →
-      Half root ws f t ts factor own 1 before (with-own before factor own)
-  unfolding slots total-of value-of
+module _ (root ws : List Weight) (f factor : ℕ) (t : Tree) (before : List ℕ) (sixteen-before : length before ≡ 16) where
+  half-none : (ts : Tree) → t ≡ app f ts → (own : ℕ) → own ≡ weight root f 0 → Half root ws f t ts factor own own 1 before before
+  unfolding total-of value-of
   half-none ts e own h =
       record {
         sum = polynomial own no-coefficients;
         long = refl;
         so-far = sums-none root ws f t ts e own h;
         total-is = sym (rw (none-total 16 0 (λ u. 1)) (omega arith));
-        sums-are = one-slot factor own before 16 (omega arith) ∙ ap (λ n. scaled-sum factor (set (replicate n 0) 16 own) before) seventeen;
+        constant-is = refl;
+        sums-are = sym (ap (λ n. scaled-sum factor (replicate n 0) before) (sym sixteen-before) ∙ scaled-none factor before);
       }
 
   half-more :
-      (u us : Tree) → is-list u ≡ false → (total part i : ℕ) (sums after : List ℕ) → Half root ws f t (cons u us) factor total i before sums →
-      Gathered ws ws u (factor * weight root f i) part sums after →
-      Half root ws f t us factor (total + weight root f i * part) (suc i) before after
-  half-more u us term total part i sums after h g =
+      (u us : Tree) → is-list u ≡ false → (total constant part own i : ℕ) (sums after : List ℕ) →
+      Half root ws f t (cons u us) factor total constant i before sums →
+      Gathered ws ws u (factor * weight root f i) part own sums after →
+      Half root ws f t us factor (total + weight root f i * part) (constant + weight root f i * own) (suc i) before after
+  unfolding added
+  half-more u us term total constant part own i sums after h g =
       let k = weight root f i in
       let x = polynomial-of ws u in
       let same : rooted ws ws u ≡ x = rooted-plain ws u term in
@@ -185,43 +161,42 @@ module _ (root ws : List Weight) (f factor : ℕ) (t : Tree) (before : List ℕ)
         so-far = sums-more root ws f t u us term i y (h .so-far) o;
         total-is =
             ap₂ (λ m n. m + k * n) (h .total-is) (g .total-is ∙ ap total-of same) ∙ sym (total-added x (sixteen ws u) k y (h .long));
+        constant-is = ap₂ (λ m n. m + k * n) (h .constant-is) (g .constant-is ∙ ap (λ (z : Polynomial). z .constant) same);
         sums-are =
             g .sums-are
-            ∙ ap₂ (λ (z : Polynomial) (l : List ℕ). scaled-sum (factor * k) (slots z) l) same (h .sums-are)
-            ∙ sym (scaled-twice factor k (slots x) (slots y) before
-            (slots-long x (sixteen ws u) ∙ sym (slots-long y (h .long)))
-            (slots-long y (h .long) ∙ sym seventeen))
-            ∙ ap (λ (l : List ℕ). scaled-sum factor l before) (sym (slots-added x (sixteen ws u) k y (h .long)));
+            ∙ ap₂ (λ (z : Polynomial) (l : List ℕ). scaled-sum (factor * k) (z .coefficients) l) same (h .sums-are)
+            ∙ sym (scaled-twice factor k (x .coefficients) (y .coefficients) before (sixteen ws u ∙ sym (h .long)) (h .long ∙ sym sixteen-before));
       }
 
   half-all :
-      (total i : ℕ) (sums : List ℕ) → Half root ws f t nil factor total i before sums → total ≤ limit → Gathered root ws t factor total before sums
-  half-all total i sums h k =
+      (total constant i : ℕ) (sums : List ℕ) → Half root ws f t nil factor total constant i before sums → total ≤ limit →
+      Gathered root ws t factor total constant before sums
+  half-all total constant i sums h k =
       let e = sums-all root ws f t i (h .sum) (h .so-far) in
       record {
         not-over = sym (sums-limit root ws f t i (h .sum) (h .so-far)) ∙ total-within (h .sum) (rw (h .total-is) at k);
         total-is = h .total-is ∙ ap total-of e;
-        sums-are = h .sums-are ∙ ap (λ (z : Polynomial). scaled-sum factor (slots z) before) e;
+        constant-is = h .constant-is ∙ ap (λ (z : Polynomial). z .constant) e;
+        sums-are = h .sums-are ∙ ap (λ (z : Polynomial). scaled-sum factor (z .coefficients) before) e;
       }
 
 -- THE WALK
 
 -- what is still to be gathered of a kept term after its first i arguments
 pub record Ungathered
-    (arities nodes : List ℕ) (at left : ℕ) (w : Weighable arities nodes at left) (root table : List ℕ) (f n factor : ℕ) (before sums : List ℕ) (total next i : ℕ) : Type 0 where
+    (arities nodes : List ℕ) (at left : ℕ) (w : Weighable arities nodes at left) (root table : List ℕ) (f n factor : ℕ) (before sums : List ℕ) (total constant next i : ℕ) : Type 0 where
   pub rest : Tree
   pub are : Arguments (w .system) nodes next (n - i) left rest
   pub ends : next + length (flat rest) ≡ at + length (flat (w .term))
-  pub half : (rs ws : List Weight) → Table-is root rs → Table-is table ws → Half rs ws f (w .term) rest factor total (i + 1) before sums
+  pub half : (rs ws : List Weight) → Table-is root rs → Table-is table ws → Half rs ws f (w .term) rest factor total constant (i + 1) before sums
 
 module _
     (arities nodes : List ℕ) (at left : ℕ) (w : Weighable arities nodes at left) (root table : List ℕ) (factor : ℕ) (before : List ℕ)
-    (seventeen : length before ≡ 17) where
+    (sixteen-before : length before ≡ 16) where
   -- before the first
   pub ungathered-all :
       getD nodes at 0 < 64 → (own : ℕ) → own ≡ getD root (9 * getD nodes at 0) 0 →
-      Ungathered arities nodes at left w root table (getD nodes at 0) (code-arity arities (getD nodes at 0)) factor before
-      (with-own before factor own) own (at + 1) 0
+      Ungathered arities nodes at left w root table (getD nodes at 0) (code-arity arities (getD nodes at 0)) factor before before own own (at + 1) 0
   unfolding flat
   ungathered-all low own e =
       let below = root-symbol arities nodes at left w low in
@@ -233,22 +208,23 @@ module _
         ends = omega arith;
         half = λ rs ws a b.
             let k = rw add-zero at (a .are (getD nodes at 0) 0 low (omega arith)) in
-            half-none rs ws (getD nodes at 0) factor (w .term) before seventeen (below .arguments) (below .applied) own (e ∙ k);
+            half-none rs ws (getD nodes at 0) factor (w .term) before sixteen-before (below .arguments) (below .applied) own (e ∙ k);
       }
 
-  module _ (f n : ℕ) (sums : List ℕ) (total next i : ℕ) (u : Ungathered arities nodes at left w root table f n factor before sums total next i) where
+  module _ (f n : ℕ) (sums : List ℕ) (total constant next i : ℕ) (u : Ungathered arities nodes at left w root table f n factor before sums total constant next i) where
     -- one is left at least
     module _ (more : i < n) where
       abbrev pub argument-next : Weighable arities nodes next (left - 1)
       argument-next = first-argument arities nodes at left w n next i (u .rest) (u .are) more
 
       pub argument-gathered :
-          (after : List ℕ) (part end : ℕ) →
-          ((rs ws : List Weight) → Table-is table rs → Table-is table ws → Gathered rs ws (argument-next .term) (factor * getD root (9 * f + 1 + i) 0) part sums after) →
+          (after : List ℕ) (part own end : ℕ) →
+          ((rs ws : List Weight) → Table-is table rs → Table-is table ws → Gathered rs ws (argument-next .term) (factor * getD root (9 * f + 1 + i) 0) part own sums after) →
           end ≡ next + length (flat (argument-next .term)) → f < 64 → n ≤ 8 →
-          Ungathered arities nodes at left w root table f n factor before after (total + getD root (9 * f + 1 + i) 0 * part) end (i + 1)
+          Ungathered arities nodes at left w root table f n factor before after
+          (total + getD root (9 * f + 1 + i) 0 * part) (constant + getD root (9 * f + 1 + i) 0 * own) end (i + 1)
       unfolding flat first-argument
-      argument-gathered after part end means ends low few =
+      argument-gathered after part own end means ends low few =
           let head = first-split arities nodes at left w n next i (u .rest) (u .are) more in
           let l = ap (λ (t : Tree). length (flat t)) (head .are) ∙ length-append (flat (head .first)) (flat (head .others)) in
           let j : 9 * f + 1 + i ≡ 9 * f + (i + 1) = omega arith in
@@ -259,24 +235,25 @@ module _
             half = λ rs ws a b.
                 let k : getD root (9 * f + 1 + i) 0 ≡ weight rs f (i + 1) = rw j (a .are f (i + 1) low (omega arith)) in
                 rw (k, add-one (i + 1))
-                (half-more rs ws f factor (w .term) before seventeen (head .first) (head .others)
+                (half-more rs ws f factor (w .term) before sixteen-before (head .first) (head .others)
                 (term-not-list (w .system) (head .first) (head .is))
-                total part (i + 1) sums after
+                total constant part own (i + 1) sums after
                 (rw (head .are) at (u .half rs ws a b))
                 (rw k at (means ws ws b b)));
           }
 
       -- it is a variable
       pub variable-argument :
-          (d : 64 ≤ getD nodes next 0) → length sums ≡ 17 → f < 64 → n ≤ 8 →
+          (d : 64 ≤ getD nodes next 0) → length sums ≡ 16 → f < 64 → n ≤ 8 →
           Ungathered arities nodes at left w root table f n factor before
           (set sums (getD nodes next 0 - 64) (getD sums (getD nodes next 0 - 64) 0 + factor * getD root (9 * f + 1 + i) 0))
-          (total + getD root (9 * f + 1 + i) 0) (next + 1) (i + 1)
+          (total + getD root (9 * f + 1 + i) 0) constant (next + 1) (i + 1)
       variable-argument d long low few =
           let v = root-variable arities nodes next (left - 1) argument-next d in
           let once : total + getD root (9 * f + 1 + i) 0 * 1 ≡ total + getD root (9 * f + 1 + i) 0 = omega arith in
-          rw once at
-          (argument-gathered _ 1 (next + 1)
+          let none : constant + getD root (9 * f + 1 + i) 0 * 0 ≡ constant = omega arith in
+          rw (once, none) at
+          (argument-gathered _ 1 0 (next + 1)
           (λ rs ws a b. variable-gathered _ (argument-next .term) (v .0) (v .1) rs ws _ sums long)
           (variable-read _ (argument-next .term) (v .0) next)
           low few)
@@ -291,72 +268,51 @@ module _
       all-gone = let l : length (flat (u .rest)) ≡ 0 = ap (λ (t : Tree). length (flat t)) none-left in omega (arith, u .ends)
 
       pub all-gathered :
-          total ≤ limit → (rs ws : List Weight) → Table-is root rs → Table-is table ws → Gathered rs ws (w .term) factor total before sums
+          total ≤ limit → (rs ws : List Weight) → Table-is root rs → Table-is table ws → Gathered rs ws (w .term) factor total constant before sums
       all-gathered h rs ws a b =
-          half-all rs ws f factor (w .term) before seventeen total (i + 1) sums (rw none-left at (u .half rs ws a b)) h
+          half-all rs ws f factor (w .term) before sixteen-before total constant (i + 1) sums (rw none-left at (u .half rs ws a b)) h
 
 -- TWO SIDES, each gathered in sums that were 0
 
-and-swap : (a b c : Bool) → (a && (b && c)) ≡ (b && (a && c))
-and-swap true true c = refl
-and-swap true false c = refl
-and-swap false true c = refl
-and-swap false false c = refl
-
-pub no-room : (n : ℕ) → Room n (replicate 17 0)
-no-room n = record { long = refl; small = λ v h. rw (getD-replicate {A = ℕ} 17 v 0 0 h) (omega arith) }
+pub no-room : (n : ℕ) → Room n (replicate 16 0)
+no-room n = record { long = refl; small = λ v h. rw (getD-replicate {A = ℕ} 16 v 0 0 h) (omega arith) }
 
 scaled-once : (xs : List ℕ) → scaled-sum 1 xs (replicate (length xs) 0) ≡ xs
 unfolding scaled-sum
 scaled-once [] = refl
 scaled-once (x ∷ xs) = ap₂ _∷_ (omega arith) (scaled-once xs)
 
-gathered-once : (root ws : List Weight) (t : Tree) (k : ℕ) (xs : List ℕ) → Gathered root ws t 1 k (replicate 17 0) xs → xs ≡ slots (rooted root ws t)
-gathered-once root ws t k xs a =
-    a .sums-are
-    ∙ ap (λ n. scaled-sum 1 (slots (rooted root ws t)) (replicate n 0)) (sym (slots-long (rooted root ws t) (rooted-sixteen root ws t)))
-    ∙ scaled-once (slots (rooted root ws t))
+module _ (root ws : List Weight) (t : Tree) (k c : ℕ) (xs : List ℕ) (a : Gathered root ws t 1 k c (replicate 16 0) xs) where
+  pub gathered-once : polynomial c xs ≡ rooted root ws t
+  gathered-once =
+      ap₂ polynomial (a .constant-is)
+      (a .sums-are
+      ∙ ap (λ n. scaled-sum 1 (rooted root ws t .coefficients) (replicate n 0)) (sym (rooted-sixteen root ws t))
+      ∙ scaled-once (rooted root ws t .coefficients))
 
-least-append :
-    (xs ys : List ℕ) (a b : ℕ) → length xs ≡ length ys → each-at-least (xs ++ (a ∷ [])) (ys ++ (b ∷ [])) ≡ (leb b a && each-at-least xs ys)
-unfolding each-at-least
-least-append [] [] a b e = refl
-least-append [] (y ∷ ys) a b e = absurd (omega arith)
-least-append (x ∷ xs) [] a b e = absurd (omega arith)
-least-append (x ∷ xs) (y ∷ ys) a b e = rw (least-append xs ys a b (omega arith)) (and-swap (leb y x) (leb b a) (each-at-least xs ys))
-
-constant-slot : (x : Polynomial) → length (x .coefficients) ≡ 16 → getD (slots x) 16 0 ≡ x .constant
-unfolding slots
-constant-slot x m = getD-at (x .coefficients) (x .constant) [] 0 16 m
-
--- as `greater_sums` tests
-abbrev pub greater-slots : List ℕ → List ℕ → Bool
-greater-slots xs ys = ltb (getD ys 16 0) (getD xs 16 0) && each-at-least xs ys
-
-and-stronger : (a b c : Bool) → (a ≡ true → b ≡ true) → (a && (b && c)) ≡ (a && c)
-and-stronger true b c h = rw (h refl)
-and-stronger false b c h = refl
-
-module _ (x y : Polynomial) (m : length (x .coefficients) ≡ 16) (n : length (y .coefficients) ≡ 16) where
-  pub slots-least : each-at-least (slots x) (slots y) ≡ at-least x y
-  unfolding slots at-least
-  slots-least = least-append (x .coefficients) (y .coefficients) (x .constant) (y .constant) (m ∙ sym n)
-
-  pub slots-greater : greater-slots (slots x) (slots y) ≡ greater x y
-  unfolding at-least greater
-  slots-greater =
-      rw (constant-slot x m, constant-slot y n, slots-least)
-      (and-stronger _ _ _ (λ h. le-leb (y .constant) (x .constant) (le-of-lt (ltb-true (y .constant) (x .constant) h))))
-
--- the verdict on two sides by their sums, whatever test of the sums stands for the test of the polynomials
-module _
-    (root ws : List Weight) (test : Polynomial → Polynomial → Bool) (quick : List ℕ → List ℕ → Bool)
-    (same : (x y : Polynomial) → length (x .coefficients) ≡ 16 → length (y .coefficients) ≡ 16 → quick (slots x) (slots y) ≡ test x y) (t u : Tree) where
+-- the verdict on two sides by what was gathered of them
+module _ (root ws : List Weight) (test : Polynomial → Polynomial → Bool) (t u : Tree) where
   pub sums-verdict :
-      (k l : ℕ) (xs ys : List ℕ) → Gathered root ws t 1 k (replicate 17 0) xs → Gathered root ws u 1 l (replicate 17 0) ys →
-      (c : Bool) → quick xs ys ≡ c → verdict false c ≡ sides-verdict root ws test t u
-  sums-verdict k l xs ys a b c e =
-      neither-over root ws test t u (a .not-over) (b .not-over) c
-      (sym (same _ _ (rooted-sixteen root ws t) (rooted-sixteen root ws u))
-      ∙ ap₂ quick (sym (gathered-once root ws t k xs a)) (sym (gathered-once root ws u l ys b))
-      ∙ e)
+      (k l c d : ℕ) (xs ys : List ℕ) → Gathered root ws t 1 k c (replicate 16 0) xs → Gathered root ws u 1 l d (replicate 16 0) ys →
+      (b : Bool) → test (polynomial c xs) (polynomial d ys) ≡ b → verdict false b ≡ sides-verdict root ws test t u
+  sums-verdict k l c d xs ys g h b e =
+      neither-over root ws test t u (g .not-over) (h .not-over) b
+      (ap₂ test (sym (gathered-once root ws t k c xs g)) (sym (gathered-once root ws u l d ys h)) ∙ e)
+
+-- as the code tests
+module _ (c d : ℕ) (xs ys : List ℕ) where
+  pub below-least : c < d → at-least (polynomial c xs) (polynomial d ys) ≡ false
+  unfolding at-least
+  below-least h = rw (lt-leb d c h)
+
+  pub then-least : d ≤ c → (b : Bool) → each-at-least xs ys ≡ b → at-least (polynomial c xs) (polynomial d ys) ≡ b
+  unfolding at-least
+  then-least h b e = rw (le-leb d c h) e
+
+  pub not-above : c ≤ d → greater (polynomial c xs) (polynomial d ys) ≡ false
+  unfolding greater
+  not-above h = rw (le-ltb d c h)
+
+  pub then-greater : d < c → (b : Bool) → each-at-least xs ys ≡ b → greater (polynomial c xs) (polynomial d ys) ≡ b
+  unfolding greater
+  then-greater h b e = rw (lt-ltb d c h) e

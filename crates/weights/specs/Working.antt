@@ -2,7 +2,7 @@
 -- of it; no promise to a user does.
 use mathlib.Core.Path.{_≡_}
 use mathlib.Core.Bool.{Bool, true, false, _||_, not, cond}
-use mathlib.Core.List.{List, [], _∷_, _++_}
+use mathlib.Core.List.{List, [], _∷_}
 use Prim.Native.Nat.{ℕ, zero, suc, _+_, _*_, _≤_, _<_}
 use lib.ListN.{length, getD, set, take}
 use Rattle.rewriting.specs.Terms.{Tree, var, app, nil, cons, Rule, System, is-term}
@@ -70,24 +70,23 @@ pub record Parts (n : ℕ) (y : Polynomial) : Type 0 where
   pub coefficients-small : (v : ℕ) → v < 16 → getD (y .coefficients) v 0 ≤ n * most-part
   pub sixteen : length (y .coefficients) ≡ 16
 
--- THE QUICK WAY gathers a polynomial in sums: a slot for each coefficient, and then one for the constant
-unfoldable pub slots : Polynomial → List ℕ
-slots x = x .coefficients ++ (x .constant ∷ [])
-
--- its value where every variable is 1, which no constant and no coefficient exceeds
+-- THE QUICK WAY gathers the coefficients of a polynomial in sums. Its total is its value where every variable is 1, which no
+-- constant and no coefficient exceeds.
 unfoldable pub total-of : Polynomial → ℕ
 total-of x = value-of x (λ v. 1)
 
--- sums of at most n parts, each a factor within the limit times a weight
+-- sums of at most n factors, each within the limit
 pub record Room (n : ℕ) (sums : List ℕ) : Type 0 where
-  pub long : length sums ≡ 17
-  pub small : (v : ℕ) → v < 17 → getD sums v 0 ≤ n * 281474976710656
+  pub long : length sums ≡ 16
+  pub small : (v : ℕ) → v < 16 → getD sums v 0 ≤ n * 4294967296
 
--- the sums before and after `factor` times the polynomial of a term was added, no node of which passes the limit
-pub record Gathered (root ws : List Weight) (t : Tree) (factor total : ℕ) (before after : List ℕ) : Type 0 where
+-- what was found of a term no node of which passes the limit: the total and the constant of its polynomial, and the sums before
+-- and after `factor` times its coefficients were added
+pub record Gathered (root ws : List Weight) (t : Tree) (factor total constant : ℕ) (before after : List ℕ) : Type 0 where
   pub not-over : rooted-over root ws t ≡ false
   pub total-is : total ≡ total-of (rooted root ws t)
-  pub sums-are : after ≡ scaled-sum factor (slots (rooted root ws t)) before
+  pub constant-is : constant ≡ rooted root ws t .constant
+  pub sums-are : after ≡ scaled-sum factor (rooted root ws t .coefficients) before
 
 -- what a rule or a pair is found to be: over the limit, or that its sides compare as they must, or not
 unfoldable pub verdict : (passes holds : Bool) → Verdict

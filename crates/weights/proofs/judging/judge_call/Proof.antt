@@ -1,13 +1,13 @@
--- `weights::judging::judge_call` meets its contract: the sums of both sides are rooted by the weights of the tuple symbols.
-use mathlib.Core.Path.{_≡_, sym, _∙_}
-use mathlib.Core.Bool.{Bool, true, false}
+-- `weights::judging::judge_call` meets its contract: both sides are rooted by the weights of the tuple symbols.
+use mathlib.Core.Path.{sym, _∙_}
+use mathlib.Core.Bool.{true, false}
 use native.Mathlib.Omega.{arith}
 use borrow.Author.Needs.{needs}
 use borrow.Author.Tests.{not-false}
 use Rattle.weights.specs.Polynomials.{greater}
 use Rattle.weights.specs.Working.{verdict}
 use Rattle.weights.proofs.Working.{as-call}
-use Rattle.weights.proofs.Gathering.{no-room, greater-slots, slots-greater, sums-verdict}
+use Rattle.weights.proofs.Gathering.{no-room, sums-verdict, not-above, then-greater}
 use Rattle.weights.proofs.judging.judge_call.Statement.{statement}
 use Rattle.weights.proofs.judging.judge_call.Tie as tie
 
@@ -18,30 +18,45 @@ gather-left c κs = let p = c .before .before .before .before .before .pre in (p
 gather-right : tie.Need-gather-requires-2
 gather-right c κs = let p = c .before .before .before .before .before .before .before .before .before .before .pre in (p .0, p .1, p .2, p .3, omega arith, no-room _, p .5 .side)
 
--- both were gathered: the sums tell
+-- both were gathered: the constants tell, or else the sums
 returns-3 : tie.Need-returns-3
 unfolding verdict
-returns-3 c = λ l m ws ms b a.
-    let second = c .before .before .before .before .before .before .before in
+returns-3 c = λ l m ws ms x y.
+    let both = c .before in
+    let second = both .before .before .before .before .before in
     let first = second .before .before .before .before .before in
     as-call _ _ _ _ l m ws ms _
-    (sums-verdict ms ws greater greater-slots slots-greater _ _ _ _ _ _
-    (first .gather .ensures .1 .1 (l .side) ms ws a b (not-false _ (second .before .before .if1 .left)))
-    (second .gather2 .ensures .1 .1 (m .side) ms ws a b (not-false _ (c .before .before .before .before .if2 .left)))
-    true
-    (sym (c .before .greater-sums .ensures) ∙ c .if3 .taken))
+    (sums-verdict ms ws greater _ _ _ _ _ _ _ _
+    (first .gather .ensures .1 .1 (l .side) ms ws y x (not-false _ (second .before .before .if1 .left)))
+    (second .gather2 .ensures .1 .1 (m .side) ms ws y x (not-false _ (both .before .before .if2 .left)))
+    false
+    (not-above _ _ _ _ (c .if3 .taken)))
 
 returns-4 : tie.Need-returns-4
 unfolding verdict
-returns-4 c = λ l m ws ms b a.
-    let second = c .before .before .before .before .before .before .before in
+returns-4 c = λ l m ws ms x y.
+    let both = c .before .before .before .before .before in
+    let second = both .before .before .before .before .before in
     let first = second .before .before .before .before .before in
     as-call _ _ _ _ l m ws ms _
-    (sums-verdict ms ws greater greater-slots slots-greater _ _ _ _ _ _
-    (first .gather .ensures .1 .1 (l .side) ms ws a b (not-false _ (second .before .before .if1 .left)))
-    (second .gather2 .ensures .1 .1 (m .side) ms ws a b (not-false _ (c .before .before .before .before .if2 .left)))
+    (sums-verdict ms ws greater _ _ _ _ _ _ _ _
+    (first .gather .ensures .1 .1 (l .side) ms ws y x (not-false _ (second .before .before .if1 .left)))
+    (second .gather2 .ensures .1 .1 (m .side) ms ws y x (not-false _ (both .before .before .if2 .left)))
+    true
+    (then-greater _ _ _ _ (c .before .before .before .before .if3 .left) true (sym (c .before .all-at-least .ensures) ∙ c .if4 .taken)))
+
+returns-5 : tie.Need-returns-5
+unfolding verdict
+returns-5 c = λ l m ws ms x y.
+    let both = c .before .before .before .before .before in
+    let second = both .before .before .before .before .before in
+    let first = second .before .before .before .before .before in
+    as-call _ _ _ _ l m ws ms _
+    (sums-verdict ms ws greater _ _ _ _ _ _ _ _
+    (first .gather .ensures .1 .1 (l .side) ms ws y x (not-false _ (second .before .before .if1 .left)))
+    (second .gather2 .ensures .1 .1 (m .side) ms ws y x (not-false _ (both .before .before .if2 .left)))
     false
-    (sym (c .before .greater-sums .ensures) ∙ c .if3 .left))
+    (then-greater _ _ _ _ (c .before .before .before .before .if3 .left) false (sym (c .before .all-at-least .ensures) ∙ c .if4 .left)))
 
 pub judge-call-spec : {M : Type 1} → statement M
 judge-call-spec =
@@ -55,8 +70,9 @@ judge-call-spec =
     gather-right
     (λ c κs. search needs)
     (λ c. search needs)
+    returns-3
     (λ c. search needs)
     (λ c. search needs)
     (λ c κs. search needs)
-    returns-3
-    returns-4)
+    returns-4
+    returns-5)

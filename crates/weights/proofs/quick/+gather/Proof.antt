@@ -5,8 +5,9 @@ use mathlib.Core.Bool.{true, false, false≢true}
 use mathlib.Core.Logic.{⊎-elim}
 use mathlib.Core.List.{List}
 use Prim.Native.Nat.{ℕ, _+_, _*_, _-_, _≤_, _<_}
+use native.Mathlib.Nat.{mul-le-mul-left}
 use native.Mathlib.Omega.{arith}
-use lib.ListN.{length, getD, length-set}
+use lib.ListN.{length, getD}
 use borrow.Author.Needs.{needs}
 use borrow.Author.Tests.{not-true, not-false}
 use borrow.Fn.Kinds.{In}
@@ -17,7 +18,7 @@ use Rattle.weights.specs.Limit.{limit}
 use Rattle.weights.specs.Working.{Weighable, Room}
 use Rattle.weights.proofs.Arguments.{node-within, root-variable, root-symbol}
 use Rattle.weights.proofs.Weighing.{variable-read}
-use Rattle.weights.proofs.Gathering.{part-of, weight-part, room-after, with-own, variable-gathered, Ungathered, ungathered-all, argument-next, argument-gathered, variable-argument, all-gone, all-gathered}
+use Rattle.weights.proofs.Gathering.{weight-part, room-after, room-more, variable-gathered, Ungathered, ungathered-all, argument-next, argument-gathered, variable-argument, all-gone, all-gathered}
 use Rattle.weights.proofs.quick.gather.Reads as gather
 use Rattle.weights.proofs.quick.gather.Kinds as gather-kinds
 use Rattle.weights.proofs.quick.+gather.Lts-gather as lts
@@ -39,13 +40,12 @@ abbrev called : ℕ → lts.Claims
 called t = (code-arity-reads.Asked, code-arity-reads.Learnt, asked t, gather.Post)
 
 abbrev Inv-loop : lts.InvT-loop
-Inv-loop arities root table nodes at left factor sums₀ code c n own total₀ next₀ i₀ sums total next i =
-    (c < 64) × (n ≤ 8) × (i ≤ n) × Room next sums × (total ≤ 65535 + i * 281474976710656) ×
-    ((w : Weighable arities nodes at left) (before : List ℕ) → length before ≡ 17 → sums₀ ≡ with-own before factor own →
-    Ungathered arities nodes at left w root table c n factor before sums total next i)
+Inv-loop arities root table nodes at left factor sums₀ code c n constant₀ total₀ next₀ i₀ sums constant total next i =
+    (c < 64) × (n ≤ 8) × (i ≤ n) × Room next sums × (total ≤ 65535 + i * 281474976710656) × (constant ≤ total) ×
+    ((w : Weighable arities nodes at left) → Ungathered arities nodes at left w root table c n factor sums₀ sums total constant next i)
 
 abbrev μ-loop : lts.MeasureT-loop
-μ-loop arities root table nodes at left factor sums₀ code c n own total₀ next₀ i₀ sums total next i = n - i
+μ-loop arities root table nodes at left factor sums₀ code c n constant₀ total₀ next₀ i₀ sums constant total next i = n - i
 
 module _ (t : ℕ) where
   -- the entry, where the root's node is read, and the loop's head
@@ -62,7 +62,7 @@ module _ (t : ℕ) where
   from-node c = c .before .before .before .before .before .before
 
   abbrev from-head : Head → Entry
-  from-head c = from-node (c .before .before .before .before .before)
+  from-head c = from-node (c .before .before .before .before)
 
   -- the root's byte, and the place in the table of its weight for argument i + 1
   abbrev byte : Entry → ℕ
@@ -93,7 +93,7 @@ module _ (t : ℕ) where
       omega (
         arith,
         slot-low (c .before),
-        p .5 .small (byte (from-node (c .before .before)) - 64) (let h = slot-low (c .before) in omega arith),
+        p .5 .small (byte (from-node (c .before .before)) - 64) (slot-low (c .before)),
         p .3,
         p .4,
         node-within _ _ _ _ (p .6) .0,
@@ -113,7 +113,7 @@ module _ (t : ℕ) where
       let p = s .pre .1 in
       let h = c .before .if1 .taken in
       let low = slot-low (c .before) in (
-        λ _. (omega arith, room-after _ _ _ _ (p .5) (omega (arith, low)) (omega (arith, p .4))),
+        λ _. (omega arith, omega arith, room-after _ _ _ _ (p .5) low (p .4)),
         (
           λ w _. variable-read _ _ (root-variable _ _ _ _ w h .0) _,
           λ w rs ws a b _. variable-gathered _ _ (root-variable _ _ _ _ w h .0) low rs ws _ _ (p .5 .long),
@@ -125,56 +125,30 @@ module _ (t : ℕ) where
   code-arity-requires : lts.Need-code-arity-requires (called t) (given t) gather.Post Inv-loop μ-loop
   code-arity-requires c κs = from-node (c .before) .pre .1 .0
 
-  read-own : lts.Need-shared-slice-read-own (called t) (given t) gather.Post Inv-loop μ-loop
-  read-own c = omega (arith, from-node (c .before .before .before) .pre .1 .1)
+  read-constant : lts.Need-shared-slice-read-constant (called t) (given t) gather.Post Inv-loop μ-loop
+  read-constant c = omega (arith, from-node (c .before .before .before) .pre .1 .1)
 
-  cast-own : lts.Need-cast-own (called t) (given t) gather.Post Inv-loop μ-loop
-  cast-own c = omega (arith, c .shared-slice-known6 .given (9 * byte (from-node (c .before .before .before))))
-
-  abbrev Symbol : Type 0
-  Symbol = lts.After-slice-known3 (called t) (given t) gather.Post Inv-loop μ-loop
-
-  abbrev from-symbol : Symbol → Entry
-  from-symbol c = from-node (c .before .before .before .before)
-
-  -- the root's own weight, times the factor
-  own-small : (c : Symbol) → getD (from-symbol c .args .root .now) (9 * byte (from-symbol c)) 0 ≤ 65535
-  own-small c = omega (arith, c .before .shared-slice-known6 .given (9 * byte (from-symbol c)))
-
-  own-part : (c : Symbol) → from-symbol c .args .factor * getD (from-symbol c .args .root .now) (9 * byte (from-symbol c)) 0 ≤ 281470681677825
-  own-part c = part-of _ _ (from-symbol c .pre .1 .4) (own-small c)
-
-  read-constant : lts.Need-slice-read-sums-2 (called t) (given t) gather.Post Inv-loop μ-loop
-  read-constant c = omega (arith, from-symbol c .pre .1 .5 .long)
-
-  mul-own : lts.Need-mul-sums-3 (called t) (given t) gather.Post Inv-loop μ-loop
-  mul-own c = omega (arith, own-part c)
-
-  add-own : lts.Need-add-sums-2 (called t) (given t) gather.Post Inv-loop μ-loop
-  add-own c =
-      let p = from-symbol c .pre .1 in
-      omega (arith, own-part c, p .5 .small 16 (omega arith), p .3, node-within _ _ _ _ (p .6) .0)
-
-  write-constant : lts.Need-slice-write-sums-2 (called t) (given t) gather.Post Inv-loop μ-loop
-  write-constant c = omega (arith, from-symbol c .pre .1 .5 .long)
+  cast-constant : lts.Need-cast-constant (called t) (given t) gather.Post Inv-loop μ-loop
+  cast-constant c = omega (arith, c .shared-slice-known6 .given (9 * byte (from-node (c .before .before .before))))
 
   after-symbol : lts.Need-add-next (called t) (given t) gather.Post Inv-loop μ-loop
   after-symbol c =
-      let p = from-symbol c .pre .1 in
+      let p = from-node (c .before .before .before) .pre .1 in
       omega (arith, p .3, node-within _ _ _ _ (p .6) .0)
 
   holds : lts.Need-loop-holds (called t) (given t) gather.Post Inv-loop μ-loop
   holds c =
-      let s = from-symbol c in
+      let s = from-node (c .before .before .before) in
       let p = s .pre .1 in
-      let low = c .before .before .before .if1 .left in
-      let n = c .before .before .code-arity .ensures .0 in (
+      let low = c .before .before .if1 .left in
+      let n = c .before .code-arity .ensures .0 in (
         low,
         omega (arith, n, root-symbol _ _ _ _ (p .6) low .few-arguments),
         omega arith,
-        room-after _ _ _ _ (p .5) (omega arith) (omega (arith, own-part c)),
-        omega (arith, own-small c),
-        λ w before long e. rw (n, e) (ungathered-all _ _ _ _ w _ _ _ before long low _ refl),
+        room-more _ _ _ (omega arith) (p .5),
+        omega (arith, c .shared-slice-known6 .given (9 * byte s)),
+        omega arith,
+        λ w. rw n (ungathered-all _ _ _ _ w _ _ _ _ (p .5 .long) low _ refl),
       )
 
   -- AN ARGUMENT
@@ -190,7 +164,12 @@ module _ (t : ℕ) where
   mul-below : lts.Need-mul-below (called t) (given t) gather.Post Inv-loop μ-loop
   mul-below c =
       let l = c .before .before in
-      omega (arith, part-of (from-head l .args .factor) (getD (from-head l .args .root .now) (place l) 0) (from-head l .pre .1 .4) (omega (arith, c .shared-slice-known7 .given (place l))))
+      omega (
+        arith,
+        weight-part (getD (from-head l .args .root .now) (place l) 0) (from-head l .args .factor)
+            (omega (arith, c .shared-slice-known7 .given (place l)))
+            (from-head l .pre .1 .4),
+      )
 
   -- the argument that is next
   abbrev Next : Type 0
@@ -203,8 +182,7 @@ module _ (t : ℕ) where
   argument c =
       let l = from-next c in
       let p = from-head l .pre .1 in
-      argument-next _ _ _ _ (p .6) _ _ _ _ (p .5 .long) _ _ _ _ _ _ (l .loop .inv .5 (p .6) (from-head l .args .sums .now) (p .5 .long) refl)
-      (c .before .before .before .loop-test .taken)
+      argument-next _ _ _ _ (p .6) _ _ _ _ (p .5 .long) _ _ _ _ _ _ _ (l .loop .inv .6 (p .6)) (c .before .before .before .loop-test .taken)
 
   abbrev next-byte : Next → ℕ
   next-byte c = getD (from-head (from-next c) .args .nodes .now) (from-next c .loop .next) 0
@@ -222,21 +200,21 @@ module _ (t : ℕ) where
   next-low : (c : lts.Then3 (called t) (given t) gather.Post Inv-loop μ-loop) → next-byte (c .before) - 64 < 16
   next-low c = root-variable _ _ _ _ (argument (c .before)) (c .if3 .taken) .1
 
-  read-next-slot : lts.Need-slice-read-sums-3 (called t) (given t) gather.Post Inv-loop μ-loop
+  read-next-slot : lts.Need-slice-read-sums-2 (called t) (given t) gather.Post Inv-loop μ-loop
   read-next-slot c = omega (arith, next-low (c .before), from-next (c .before .before) .loop .inv .3 .long)
 
-  add-next-slot : lts.Need-add-sums-3 (called t) (given t) gather.Post Inv-loop μ-loop
+  add-next-slot : lts.Need-add-sums-2 (called t) (given t) gather.Post Inv-loop μ-loop
   add-next-slot c =
       let l = from-next (c .before .before) in
       omega (
         arith,
-        l .loop .inv .3 .small (next-byte (c .before .before) - 64) (let h = next-low (c .before) in omega arith),
+        l .loop .inv .3 .small (next-byte (c .before .before) - 64) (next-low (c .before)),
         from-head l .pre .1 .3,
         node-within _ _ _ _ (argument (c .before .before)) .0,
         c .before .before .before .if2 .left,
       )
 
-  write-next-slot : lts.Need-slice-write-sums-3 (called t) (given t) gather.Post Inv-loop μ-loop
+  write-next-slot : lts.Need-slice-write-sums-2 (called t) (given t) gather.Post Inv-loop μ-loop
   write-next-slot c = omega (arith, next-low (c .before), from-next (c .before .before) .loop .inv .3 .long)
 
   add-weight : lts.Need-add-total (called t) (given t) gather.Post Inv-loop μ-loop
@@ -266,30 +244,49 @@ module _ (t : ℕ) where
       (c : Next) (total : ℕ) → total ≤ 4294967295 → getD (from-head (from-next c) .args .root .now) (place (from-next c)) 0 * total ≤ 281470681677825
   part-small c total h = weight-part (getD (from-head (from-next c) .args .root .now) (place (from-next c)) 0) total (weight-small c) h
 
+  -- what the call found
   abbrev Gone : Type 0
   Gone = lts.After-struct-known2 (called t) (given t) gather.Post Inv-loop μ-loop
 
-  part-of-total :
+  abbrev from-gone : Gone → lts.After-gather (called t) (given t) gather.Post Inv-loop μ-loop
+  from-gone c = c .before .before .before .before .before
+
+  found : (c : Gone) → (from-gone c .gather .result .total ≤ 4294967295) × (from-gone c .gather .result .constant ≤ from-gone c .gather .result .total)
+  found c = let b = from-gone c .gather .ensures .0 (not-false _ (c .before .if4 .left)) in (b .0, b .1)
+
+  total-part :
       (c : Gone) →
-      let done = c .before .before .before .before .before in
-      let here = done .before .before .before in
-      getD (from-head (from-next here) .args .root .now) (place (from-next here)) 0 * done .gather .result .total ≤ 281470681677825
-  part-of-total c =
-      let done = c .before .before .before .before .before in
-      part-small (done .before .before .before) _ (done .gather .ensures .0 (not-false _ (c .before .if4 .left)) .0)
+      let here = from-gone c .before .before .before in
+      getD (from-head (from-next here) .args .root .now) (place (from-next here)) 0 * from-gone c .gather .result .total ≤ 281470681677825
+  total-part c = part-small (from-gone c .before .before .before) _ (found c .0)
+
+  constant-part :
+      (c : Gone) →
+      let here = from-gone c .before .before .before in
+      getD (from-head (from-next here) .args .root .now) (place (from-next here)) 0 * from-gone c .gather .result .constant ≤ 281470681677825
+  constant-part c = part-small (from-gone c .before .before .before) _ (omega (arith, found c .0, found c .1))
 
   mul-total : lts.Need-mul-total (called t) (given t) gather.Post Inv-loop μ-loop
-  mul-total c = omega (arith, part-of-total c)
+  mul-total c = omega (arith, total-part c)
 
   add-total : lts.Need-add-total-2 (called t) (given t) gather.Post Inv-loop μ-loop
   add-total c =
-      let l = from-next (c .before .before .before .before .before .before .before .before) in
-      omega (arith, part-of-total c, l .loop .inv .4, l .loop .inv .1, l .loop .inv .2)
+      let l = from-next (from-gone c .before .before .before) in
+      omega (arith, total-part c, l .loop .inv .4, l .loop .inv .1, l .loop .inv .2)
+
+  mul-constant : lts.Need-mul-constant-3 (called t) (given t) gather.Post Inv-loop μ-loop
+  mul-constant c = omega (arith, constant-part (c .before))
+
+  add-constant : lts.Need-add-constant (called t) (given t) gather.Post Inv-loop μ-loop
+  add-constant c =
+      let l = from-next (from-gone (c .before) .before .before .before) in
+      omega (arith, constant-part (c .before), l .loop .inv .4, l .loop .inv .5, l .loop .inv .1, l .loop .inv .2)
 
   again : lts.Need-loop-again (called t) (given t) gather.Post Inv-loop μ-loop
   again c =
       let here = c .before in
       let l = from-next here in
+      let long = from-head l .pre .1 .5 .long in
       let more = here .before .before .before .loop-test .taken in
       ⊎-elim
       (λ z.
@@ -297,26 +294,29 @@ module _ (t : ℕ) where
         l .loop .inv .0,
         l .loop .inv .1,
         omega (arith, more),
-        rw (z .2, z .4) (room-after _ _ _ _ (l .loop .inv .3) (omega (arith, low)) (omega (arith, here .before .if2 .left))),
-        rw (z .3) (omega (arith, l .loop .inv .4, weight-small here)),
-        λ w before long e.
-            rw (z .2, z .3, z .4)
-            (variable-argument _ _ _ _ w _ _ _ _ long _ _ _ _ _ _ (l .loop .inv .5 w before long e) more (z .0 .taken) (l .loop .inv .3 .long) (l .loop .inv .0) (l .loop .inv .1)),
+        rw (z .2, z .5) (room-after _ _ _ _ (l .loop .inv .3) low (here .before .if2 .left)),
+        rw (z .4) (omega (arith, l .loop .inv .4, weight-small here)),
+        rw (z .3, z .4) (omega (arith, l .loop .inv .5)),
+        λ w.
+            rw (z .2, z .3, z .4, z .5)
+            (variable-argument _ _ _ _ w _ _ _ _ long _ _ _ _ _ _ _ (l .loop .inv .6 w) more (z .0 .taken) (l .loop .inv .3 .long) (l .loop .inv .0) (l .loop .inv .1)),
       ))
       (λ z.
       let part = z .2 in
-      let through : part .result .through ≡ true = not-false _ (z .6 .left) in (
+      let through : part .result .through ≡ true = not-false _ (z .6 .left) in
+      let b = part .ensures .0 through in (
         l .loop .inv .0,
         l .loop .inv .1,
         omega (arith, more),
-        rw (z .8, z .10) (part .ensures .0 through .1),
-        rw (z .9) (omega (arith, l .loop .inv .4, part-small here _ (part .ensures .0 through .0))),
-        λ w before long e.
-            let u = l .loop .inv .5 w before long e in
-            let v = argument-next _ _ _ _ w _ _ _ _ long _ _ _ _ _ _ u more in
-            rw (z .8, z .9, z .10)
-            (argument-gathered _ _ _ _ w _ _ _ _ long _ _ _ _ _ _ u more _ _ _
-            (λ rs ws a b. part .ensures .1 .1 v rs ws a b through)
+        rw (z .9, z .12) (b .2),
+        rw (z .11) (omega (arith, l .loop .inv .4, part-small here _ (b .0))),
+        rw (z .10, z .11) (omega (arith, l .loop .inv .5, mul-le-mul-left (getD (from-head l .args .root .now) (place l) 0) (b .1))),
+        λ w.
+            let u = l .loop .inv .6 w in
+            let v = argument-next _ _ _ _ w _ _ _ _ long _ _ _ _ _ _ _ u more in
+            rw (z .9, z .10, z .11, z .12)
+            (argument-gathered _ _ _ _ w _ _ _ _ long _ _ _ _ _ _ _ u more _ _ _ _
+            (λ rs ws x y. part .ensures .1 .1 v rs ws x y through)
             (part .ensures .1 .0 v through)
             (l .loop .inv .0)
             (l .loop .inv .1)),
@@ -334,10 +334,10 @@ module _ (t : ℕ) where
       let l = c .before .before in
       let p = from-head l .pre .1 in
       let done = c .before .loop-test .left in (
-        λ _. (c .if5 .left, l .loop .inv .3),
+        λ _. (c .if5 .left, l .loop .inv .5, l .loop .inv .3),
         (
-          λ w _. all-gone _ _ _ _ w _ _ _ _ (p .5 .long) _ _ _ _ _ _ (l .loop .inv .5 w (from-head l .args .sums .now) (p .5 .long) refl) done,
-          λ w rs ws a b _. all-gathered _ _ _ _ w _ _ _ _ (p .5 .long) _ _ _ _ _ _ (l .loop .inv .5 w (from-head l .args .sums .now) (p .5 .long) refl) done (c .if5 .left) rs ws a b,
+          λ w _. all-gone _ _ _ _ w _ _ _ _ (p .5 .long) _ _ _ _ _ _ _ (l .loop .inv .6 w) done,
+          λ w rs ws a b _. all-gathered _ _ _ _ w _ _ _ _ (p .5 .long) _ _ _ _ _ _ _ (l .loop .inv .6 w) done (c .if5 .left) rs ws a b,
         ),
       )
 
@@ -380,12 +380,8 @@ pub +gather-spec : {M : Type 1} → statement M
     (code-arity-requires t)
     (λ c. omega arith)
     (λ c. omega arith)
-    (read-own t)
-    (cast-own t)
     (read-constant t)
-    (mul-own t)
-    (add-own t)
-    (write-constant t)
+    (cast-constant t)
     (after-symbol t)
     (holds t)
     (λ c. omega arith)
@@ -412,6 +408,8 @@ pub +gather-spec : {M : Type 1} → statement M
     (returns-3 t)
     (mul-total t)
     (add-total t)
+    (mul-constant t)
+    (add-constant t)
     (λ c. omega arith)
     (λ c. omega arith)
     (again t)

@@ -12,10 +12,10 @@ use Rattle.weights.proofs.quick.all_at_least.Tie as tie
 
 abbrev Inv-loop : tie.InvT-loop
 Inv-loop xs ys v₀ v =
-    (length xs ≡ 17) × (length ys ≡ 17) × (v ≤ 17) × (each-at-least (drop v xs) (drop v ys) ≡ each-at-least xs ys)
+    (length xs ≡ 16) × (length ys ≡ 16) × (v ≤ 16) × (each-at-least (drop v xs) (drop v ys) ≡ each-at-least xs ys)
 
 abbrev μ-loop : tie.MeasureT-loop
-μ-loop xs ys v₀ v = 17 - v
+μ-loop xs ys v₀ v = 16 - v
 
 returns : tie.Need-returns Inv-loop μ-loop
 returns c =
