@@ -1,11 +1,10 @@
 -- What a component with one weighting comes to, and what is known of the rules once it has passed: they hold under its weights, so
 -- they need not be judged under the same weights again.
 use mathlib.Core.Path.{_≡_, refl, sym, ap, _∙_}
-use mathlib.Core.Bool.{false, true, not}
+use mathlib.Core.Bool.{false}
 use mathlib.Core.List.{List, [], _∷_}
 use Prim.Native.Nat.{ℕ, zero, suc, _+_, _/_, _≤_, _<_}
 use native.Mathlib.Omega.{arith}
-use lib.Dec.{eqb}
 use lib.ListN.{length, replicate, length-replicate}
 use borrow.Author.Tests.{eq-eqb, ne-eqb}
 use Rattle.rewriting.specs.Terms.{System, Rule}
@@ -20,8 +19,8 @@ use Rattle.weights.specs.Working.{Table-is, verdict}
 use Rattle.weights.proofs.Judged.{weighed}
 use Rattle.certificates.specs.Components.{Component}
 use Rattle.checker.specs.Judge.{calls, plain, weighed-refusal, component-refusal}
-use Rattle.checker.specs.Working.{Component-at, Component-fits, Component-judged, Weights-at, Same-weights, chosen, record-count}
-use Rattle.checker.specs.Working.{rules-verdict, calls-verdict, Rules-hold, Rules-known, last-weights, Known-after}
+use Rattle.checker.specs.Working.{Component-at, Component-fits, Component-judged, Weights-at, chosen, record-count}
+use Rattle.checker.specs.Working.{rules-verdict, calls-verdict, Weights-held, Rules-known, last-weights, Known-after}
 use Rattle.checker.proofs.Positions.{header-here, weights-here, marked-here, records-counted}
 use Rattle.checker.proofs.Verdicts.{chosen-number}
 
@@ -77,7 +76,7 @@ module _
   weights-there = rw long at (weights-here cert at c here p fits w is)
 
   -- the weights are those before: the table holds them, and the rules hold
-  module _ {before : ℕ} {table : List ℕ} (held : Rules-hold p cert before table) (same : held .weights ≡ w .weights) where
+  module _ {before : ℕ} {table : List ℕ} (held : Weights-held p cert before table) (same : held .weights ≡ w .weights) where
     pub held-still : Table-is table (w .weights)
     held-still = rw same at (held .kept)
 

@@ -156,7 +156,7 @@ chosen Holds Fails n = refused 13
 chosen Holds Holds n = passed n
 
 -- the table holds the weights whose W records begin at record `before`, and all rules hold under them, whatever the marked ones are
-pub record Rules-hold (p : System) (certificate : List ℕ) (before : ℕ) (table : List ℕ) : Type 0 where
+pub record Weights-held (p : System) (certificate : List ℕ) (before : ℕ) (table : List ℕ) : Type 0 where
   pub weights : List Weight
   pub stand : Weights-at certificate before W-weight weights
   pub kept : Table-is table weights
@@ -166,7 +166,7 @@ pub record Rules-hold (p : System) (certificate : List ℕ) (before : ℕ) (tabl
 pub record Rules-known (p : System) (certificate : List ℕ) (at before : ℕ) (table : List ℕ) : Type 0 where
   pub behind : before ≤ at
   pub none : before ≡ 0 → table ≡ replicate 576 0
-  pub some : 0 < before → Rules-hold p certificate before table
+  pub some : 0 < before → Weights-held p certificate before table
 
 -- where the last weights begin once this component has passed
 unfoldable pub last-weights : Component → (at before : ℕ) → ℕ

@@ -1,12 +1,12 @@
 -- `checker::component::weighted` meets its contract: under the weights of the component before, the rules hold as they did; under
 -- others the table is filled anew and all rules are judged by it.
-use Prim.Native.Nat.{ℕ, _/_, _≤_, _<_}
+use Prim.Native.Nat.{_/_, _≤_, _<_}
 use native.Mathlib.Omega.{arith}
 use borrow.Author.Needs.{needs}
 use lib.ListN.{length}
 use Rattle.checker.specs.Working.{rules-verdict}
 use Rattle.checker.proofs.Positions.{pairs-here}
-use Rattle.checker.proofs.Known.{only-weighting, small, weights-there, held-still, hold-still, marked-there, judged, known-now, table-long}
+use Rattle.checker.proofs.Known.{only-weighting, small, weights-there, held-still, hold-still, marked-there, judged, known-now}
 use Rattle.checker.proofs.component.weighted.Statement.{statement}
 use Rattle.checker.proofs.component.weighted.Tie as tie
 

@@ -8,7 +8,7 @@ use borrow.Author.Needs.{needs}
 use lib.ListN.{length, set, replicate}
 use Rattle.rewriting.proofs.Basics.{Each, each-head}
 use Rattle.records.specs.declared.Record.{Record}
-use Rattle.records.specs.Records.{a-record, record-at}
+use Rattle.records.specs.Records.{record-at}
 use Rattle.weights.specs.Polynomials.{Weight}
 use Rattle.weights.specs.Working.{Table-is}
 use Rattle.checker.specs.Working.{Weights-at}
