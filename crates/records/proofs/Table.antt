@@ -2,7 +2,8 @@
 -- there, and the two files' kinds never mix.
 use mathlib.Core.Path.{_≡_, refl, sym, subst}
 use mathlib.Core.Bool.{Bool, true, false, false≢true}
-use Prim.Native.Nat.{ℕ, zero, suc, _+_, _-_, _*_, _≤_, _<_}
+use mathlib.Core.List.{List, [], _∷_}
+use Prim.Native.Nat.{ℕ, zero, suc, _+_, _-_, _*_, _/_, _%_, _^_, _≤_, _<_}
 use native.Mathlib.Nat.{le-of-suc-le-suc}
 use native.Mathlib.Omega.{arith}
 use lib.Dec.{ltb, eqb}
@@ -67,32 +68,43 @@ zero-below zero f h i b = absurd (omega arith)
 zero-below (suc n) f h zero b = omega arith
 zero-below (suc n) f h (suc i) b = zero-below n (λ j. f (suc j)) (omega arith) i (le-of-suc-le-suc b)
 
-abbrev part-sum : (rows columns first-row first-column : ℕ) → ℕ
-part-sum m n b c = sum-below m (λ i. sum-below n (λ j. entry (b + i) (c + j)))
+-- the same of numbers in rows and columns
+sum-of : (rows columns : ℕ) → (ℕ → ℕ → ℕ) → ℕ
+sum-of m n f = sum-below m (λ i. sum-below n (f i))
 
-part-zero : (m n b c : ℕ) → part-sum m n b c ≡ 0 → (i j : ℕ) → i < m → j < n → entry (b + i) (c + j) ≡ 0
-part-zero m n b c h i j k l =
-    zero-below n (λ j. entry (b + i) (c + j)) (zero-below m (λ i. sum-below n (λ j. entry (b + i) (c + j))) h i k) j l
+zero-in : (m n : ℕ) (f : ℕ → ℕ → ℕ) → sum-of m n f ≡ 0 → (i j : ℕ) → i < m → j < n → f i j ≡ 0
+unfolding sum-of
+zero-in m n f h i j k l = zero-below n (f i) (zero-below m (λ i. sum-below n (f i)) h i k) j l
 
 -- in a pack no kind of the certificate may stand, nor any other byte
 pub pack-apart : (before next : ℕ) → before < 5 → 5 ≤ next → next ≤ 10 → entry before next ≡ 0
-unfolding order sum-below
+unfolding order sum-below sum-of
 pack-apart before next h k l =
-    let e : 0 + before ≡ before = omega arith in
     let f : 5 + (next - 5) ≡ next = omega arith in
-    rw (e, f) at (part-zero 5 6 0 5 refl before (next - 5) h (omega arith))
+    rw f at (zero-in 5 6 (λ i j. entry i (5 + j)) refl before (next - 5) h (omega arith))
 
 -- in a certificate no kind of the pack may stand
 pub certificate-apart : (before next : ℕ) → 5 ≤ before → before ≤ 10 → next < 5 → entry before next ≡ 0
-unfolding order sum-below
+unfolding order sum-below sum-of
 certificate-apart before next h k l =
-    let e : 0 + next ≡ next = omega arith in
     let f : 5 + (before - 5) ≡ before = omega arith in
-    rw (e, f) at (part-zero 6 5 5 0 refl (before - 5) next (omega arith) l)
+    rw f at (zero-in 6 5 (λ i j. entry (5 + i) j) refl (before - 5) next (omega arith) l)
 
 -- any other byte may stand nowhere
 pub other-nowhere : (before : ℕ) → before ≤ 10 → entry before 10 ≡ 0
-unfolding order sum-below
-other-nowhere before h =
-    let e : 0 + before ≡ before = omega arith in
-    rw e at (part-zero 11 1 0 10 refl before 0 (omega arith) (omega arith))
+unfolding order sum-below sum-of
+other-nowhere before h = zero-in 11 1 (λ i j. entry i 10) refl before 0 (omega arith) (omega arith)
+
+-- THE CODE'S TABLE: a row is a number, an entry its hex digit
+abbrev pub rows : List ℕ
+rows = 17 ∷ 273 ∷ 69632 ∷ 140035 ∷ 140035 ∷ 17825792 ∷ 268435456 ∷ 292648124416 ∷ 73032269824 ∷ 68737302528 ∷ 0 ∷ []
+
+abbrev digit : (before next : ℕ) → ℕ
+digit before next = getD rows before 0 / 2 ^ (4 * next) % 16
+
+abbrev apart : (before next : ℕ) → ℕ
+apart before next = (digit before next - entry before next) + (entry before next - digit before next)
+
+pub digits-are : (before next : ℕ) → before < 11 → next < 11 → digit before next ≡ entry before next
+unfolding order sum-below sum-of
+digits-are before next h k = let z : apart before next ≡ 0 = zero-in 11 11 apart refl before next h k in omega arith
