@@ -1,4 +1,5 @@
 -- All dependency pairs of a system, rising by rule and place.
+-- A pair whose right side is a subterm of its left is a pair as any other: document 01 drops none.
 use mathlib.Core.Bool.{Bool, true, false, _&&_, cond}
 use mathlib.Core.List.{List, [], _∷_, _++_}
 use Prim.Native.Nat.{ℕ, zero, suc, _+_}
