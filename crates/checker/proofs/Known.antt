@@ -41,7 +41,7 @@ rules-hold-under p w cs passed ms =
     let n = none-over-none-rises (weighed (p .rules) (w ∷ []) cs .0 passed) in
     rw (n .0, n .1)
 
--- the table in either case
+-- the table has its length, whether there are such weights or not
 pub table-long : {p : System} {cert : List ℕ} {at : ℕ} (before : ℕ) {table : List ℕ} → Rules-known p cert at before table → length table ≡ 576
 table-long zero k = ap length (k .none refl) ∙ length-replicate {A = ℕ} 576 0
 table-long (suc n) k = k .some (omega arith) .kept .long
@@ -57,6 +57,14 @@ unfolding Known-after last-weights
 known-without c none k passed =
     rw (eq-eqb (length (c .weightings)) 0 none)
     (record { behind = omega (arith, k .behind); none = k .none; some = k .some })
+
+-- under the same weights the table holds them and the rules hold as before
+module _ {p : System} {cert : List ℕ} {before : ℕ} {table : List ℕ} (held : Weights-held p cert before table) {ws : List Weight} (same : held .weights ≡ ws) where
+  pub still-held : Table-is table ws
+  still-held = rw same at (held .kept)
+
+  pub still-hold : (marked : List Weight) → Holds ≡ rules-verdict p ws marked
+  still-hold marked = rw same at (held .hold marked)
 
 -- A COMPONENT WITH ONE WEIGHTING
 
@@ -74,14 +82,6 @@ module _
 
   pub weights-there : Weights-at cert (at + 1 + count) W-weight (w .weights)
   weights-there = rw long at (weights-here cert at c here p fits w is)
-
-  -- the weights are those before: the table holds them, and the rules hold
-  module _ {before : ℕ} {table : List ℕ} (held : Weights-held p cert before table) (same : held .weights ≡ w .weights) where
-    pub held-still : Table-is table (w .weights)
-    held-still = rw same at (held .kept)
-
-    pub hold-still : Holds ≡ rules-verdict p (w .weights) (w .marked)
-    hold-still = rw same at (held .hold (w .marked))
 
   module _ {middle : ℕ} (passed : middle ≡ at + 1 + count + length (w .weights)) where
     pub marked-there : Weights-at cert middle M-marked (w .marked)

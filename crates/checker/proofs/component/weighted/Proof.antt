@@ -6,7 +6,7 @@ use borrow.Author.Needs.{needs}
 use lib.ListN.{length}
 use Rattle.checker.specs.Working.{rules-verdict}
 use Rattle.checker.proofs.Positions.{pairs-here}
-use Rattle.checker.proofs.Known.{only-weighting, small, weights-there, held-still, hold-still, marked-there, judged, known-now}
+use Rattle.checker.proofs.Known.{only-weighting, small, weights-there, still-held, still-hold, marked-there, judged, known-now}
 use Rattle.checker.proofs.component.weighted.Statement.{statement}
 use Rattle.checker.proofs.component.weighted.Tie as tie
 
@@ -59,8 +59,8 @@ returns c =
           let there = weights-there fits here (only .1) long in
           let held = known .some (told .0) in
           let run = told .1 (held .weights) (only .0 .weights) (held .stand) there in
-          let table = held-still fits here (only .1) long held (run .same) in
-          let rules = hold-still fits here (only .1) long held (run .same) in
+          let table = still-held held (run .same) in
+          let rules = still-hold held (run .same) (only .0 .marked) in
           let marked = marked-there fits here (only .1) long (run .passed) in (
             judged fits here (only .1) long (run .passed) rules _
                 (called .judge-marked .ensures .1 p symbols (d .pairs) (only .0 .weights) (only .0 .marked) s (fits .are-pairs) (pairs-here _ _ _ here) long marked table),
