@@ -19,7 +19,7 @@ use Rattle.records.proofs.Bytes.{In-range, All-in-range, in-range-append}
 use Rattle.packs.specs.Encoding.{Good-pack}
 use Rattle.terms.proofs.Parsing.{length-flat}
 use Rattle.pairs.specs.Listing.{pair-record, pair-records}
-use Rattle.weights.specs.Polynomials.{Weight, Weighting}
+use Rattle.polynomials.specs.Polynomials.{Weight, Weighting}
 use Rattle.certificates.specs.Components.{Component}
 use Rattle.certificates.specs.Reading.{is-place}
 use Rattle.certificates.specs.Encoding.{weight-records, weighting-records, component-records}

@@ -19,7 +19,7 @@ use Rattle.records.specs.Rising.{last-below}
 use Rattle.records.proofs.Outcomes.{not-passed, passed-same, test-held}
 use Rattle.records.proofs.Table.{Kind, is-S, is-R, is-F, is-V, is-C, is-P, is-W, is-M, is-other, kind-of, certificate-apart, other-nowhere, may-follow-entry}
 use Rattle.pairs.specs.Listing.{a-pair, pair-record}
-use Rattle.weights.specs.Polynomials.{Weight}
+use Rattle.polynomials.specs.Polynomials.{Weight}
 use Rattle.certificates.specs.Components.{Component, no-weighting, with-pair, last-weighting, with-weight, with-marked}
 use Rattle.certificates.specs.Reading.{Reading, going-on, most-pairs, most-weightings, components-of, has-weighting, component-read, pair-read, weight-of, weights-below, is-place, weight-read, marked-read, inside-read, cert-step}
 use Rattle.certificates.proofs.Shapes.{Counted, Is-pair, At-place, Of-defined}

@@ -22,8 +22,8 @@ use Rattle.records.specs.Rising.{last-below, rising}
 use Rattle.records.proofs.Outcomes.{passed-same, test-held, test-failed, after-passed}
 use Rattle.records.proofs.Bytes.{bytes-of-records, records-in-range}
 use Rattle.pairs.specs.Listing.{pair-record, pair-records}
-use Rattle.weights.specs.Polynomials.{Weight, Weighting}
-use Rattle.weights.specs.Judging.{is-none}
+use Rattle.polynomials.specs.Polynomials.{Weight, Weighting}
+use Rattle.polynomials.specs.Judging.{is-none}
 use Rattle.certificates.specs.Components.{Component, no-weighting, with-pair, last-weighting, on-last, add-weight, add-marked, with-weight, with-marked}
 use Rattle.certificates.specs.Reading.{Reading, going-on, most-bytes, with-begun, components-of, has-weighting, weights-below, cert-step, cert-end, cert-from, read-certificate}
 use Rattle.certificates.specs.Encoding.{weight-records, weighting-records, component-records, certificate-bytes, Good-certificate}

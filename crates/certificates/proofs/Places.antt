@@ -13,7 +13,7 @@ use Rattle.rewriting.proofs.Basics.{Each, each-nil, each-cons}
 use Rattle.records.specs.Outcomes.{passed}
 use Rattle.records.specs.Order.{order, lets, may-follow, certificate-edge}
 use Rattle.records.specs.Rising.{rising}
-use Rattle.weights.specs.Polynomials.{Weight, Weighting}
+use Rattle.polynomials.specs.Polynomials.{Weight, Weighting}
 use Rattle.certificates.specs.Components.{Component, no-weighting}
 use Rattle.certificates.specs.Reading.{Reading, going-on, most-weightings, components-of, has-weighting, cert-end}
 use Rattle.certificates.specs.Encoding.{weight-records, weighting-records}

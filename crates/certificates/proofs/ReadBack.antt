@@ -17,8 +17,8 @@ use Rattle.records.specs.Order.{C-component, W-weight, M-marked, order, lets, m
 use Rattle.records.proofs.Bytes.{records-of-bytes, length-of-bytes}
 use Rattle.packs.specs.Encoding.{Good-pack}
 use Rattle.pairs.specs.Listing.{pair-records}
-use Rattle.weights.specs.Polynomials.{Weight, Weighting}
-use Rattle.weights.specs.Judging.{is-none}
+use Rattle.polynomials.specs.Polynomials.{Weight, Weighting}
+use Rattle.polynomials.specs.Judging.{is-none}
 use Rattle.certificates.specs.Components.{Component, no-weighting, with-pair, last-weighting, on-last, add-weight, add-marked, with-weight, with-marked}
 use Rattle.certificates.specs.Reading.{Reading, going-on, most-bytes, most-weightings, with-begun, components-of, has-weighting, weights-below, cert-from, read-certificate}
 use Rattle.certificates.specs.Encoding.{weight-records, weighting-records, component-records, certificate-bytes, Good-certificate}

@@ -12,7 +12,7 @@ use Rattle.rewriting.specs.Pairs.{Pair, is-pair, defined}
 use Rattle.rewriting.proofs.Basics.{and-left, and-right, and-both, Each, each-nil, each-cons, each-head, each-tail, each-at, each-by, each-map}
 use Rattle.records.specs.Rising.{rising}
 use Rattle.pairs.specs.Listing.{a-pair}
-use Rattle.weights.specs.Polynomials.{Weight, Weighting}
+use Rattle.polynomials.specs.Polynomials.{Weight, Weighting}
 use Rattle.certificates.specs.Components.{Component, no-component, no-weighting}
 use Rattle.certificates.specs.Reading.{most-pairs, most-weightings, is-place}
 use Rattle.certificates.specs.Encoding.{no-weight, Placed, Good-weighting, Good-component, Good-certificate}

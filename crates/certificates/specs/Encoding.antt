@@ -11,7 +11,7 @@ use Rattle.records.specs.Records.{a-record, all-record-bytes}
 use Rattle.records.specs.Order.{C-component, W-weight, M-marked}
 use Rattle.records.specs.Rising.{rising}
 use Rattle.pairs.specs.Listing.{a-pair, pair-records}
-use Rattle.weights.specs.Polynomials.{Weight, Weighting}
+use Rattle.polynomials.specs.Polynomials.{Weight, Weighting}
 use Rattle.certificates.specs.Components.{Component, no-component, no-weighting}
 
 unfoldable pub weight-records : (kind : ℕ) → List Weight → List Record

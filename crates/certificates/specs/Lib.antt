@@ -1,6 +1,4 @@
--- Certificates: components, the reader with refusals 1, 2, 3 and 7, and the encoder.
+-- Certificates: components, reading them with refusals 1, 2, 3 and 7, and encoding them.
 pub mod Components
 pub mod Reading
 pub mod Encoding
--- how the code reads it
-pub mod Working

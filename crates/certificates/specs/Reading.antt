@@ -14,8 +14,8 @@ use Rattle.records.specs.Records.{all-records, length-bad}
 use Rattle.records.specs.Order.{C-component, P-pair, W-weight, certificate-edge, index, may-follow}
 use Rattle.records.specs.Rising.{last-below}
 use Rattle.pairs.specs.Listing.{a-pair}
-use Rattle.weights.specs.Polynomials.{Weight, Weighting}
-use Rattle.weights.specs.Judging.{is-none}
+use Rattle.polynomials.specs.Polynomials.{Weight, Weighting}
+use Rattle.polynomials.specs.Judging.{is-none}
 use Rattle.certificates.specs.Components.{Component, no-component, no-weighting, with-pair, last-weighting, with-weight, with-marked}
 
 -- THE LIMITS of document 01

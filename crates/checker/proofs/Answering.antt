@@ -6,9 +6,9 @@ use Prim.Native.Nat.{ℕ, _<_}
 use lib.ListN.{getD}
 use Rattle.rewriting.specs.Terms.{System}
 use Rattle.pairs.specs.Listing.{pairs}
-use Rattle.pairs.specs.Walking.{rule-pairs, first-pairs}
-use Rattle.pairs.proofs.FromStore.{stored-pairs}
-use Rattle.checker.specs.Judge.{judged, plain, components-refusal}
+use Rattle.pair_finder.specs.Walking.{rule-pairs, first-pairs}
+use Rattle.pair_finder.proofs.FromStore.{stored-pairs}
+use Rattle.judging.specs.Judge.{judged, plain, components-refusal}
 use Rattle.checker.specs.Working.{all-owned, lowest, any-back, Judgeable}
 use Rattle.checker.proofs.FromRead.{pair-small, read-are, read-few}
 use Rattle.checker.proofs.OwnersMean.{eight-twice, eight-missing, nine, then-components}

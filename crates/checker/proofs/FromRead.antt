@@ -15,16 +15,16 @@ use Rattle.records.specs.Outcomes.{passed}
 use Rattle.records.proofs.Bytes.{length-of-records}
 use Rattle.terms.proofs.Parsing.{length-flat}
 use Rattle.packs.specs.Encoding.{Good-pack}
-use Rattle.packs.specs.Stored.{Stored}
+use Rattle.pack_reader.specs.Stored.{Stored}
 use Rattle.pairs.specs.Listing.{a-pair}
-use Rattle.weights.specs.Polynomials.{Weight, Weighting}
+use Rattle.polynomials.specs.Polynomials.{Weight, Weighting}
 use Rattle.certificates.specs.Components.{Component, no-component, no-weighting}
 use Rattle.certificates.specs.Reading.{read-certificate, is-place}
 use Rattle.certificates.specs.Encoding.{no-weight}
 use Rattle.certificates.proofs.Shapes.{Shaped, Weighting-shaped, Weights-rise, At-place}
 use Rattle.certificates.proofs.Encoding.{components-few}
 use Rattle.certificates.proofs.OnlyEncodings.{certificate-shaped, certificate-read, length-within}
-use Rattle.checker.specs.Shown.{nth}
+use Rattle.judging.specs.Shown.{nth}
 use Rattle.checker.specs.Working.{All-pairs, Fillable, Component-fits, Components-from, Judgeable}
 
 each-member : {A : Type 0} {P : A → Type 0} {x : A} {xs : List A} → Each P xs → List·Memᴰ x xs → P x

@@ -13,13 +13,13 @@ use Rattle.rewriting.proofs.Basics.{Each, each-nil, each-cons, each-append, eac
 use Rattle.rewriting.proofs.Pairs.{pair-rule, pair-place, pair-defined, pair-right-has, pair-right-term, pair-right-small}
 use Rattle.terms.specs.Sides.{flat}
 use Rattle.terms.specs.Kept.{Kept}
-use Rattle.packs.specs.Stored.{Stored}
-use Rattle.pairs.proofs.FromStore.{stored-rule, subterm-at}
+use Rattle.pack_reader.specs.Stored.{Stored}
+use Rattle.pair_finder.proofs.FromStore.{stored-rule, subterm-at}
 use Rattle.weights.specs.declared.Verdict.{Verdict}
-use Rattle.weights.specs.Polynomials.{Weight, Weighting}
-use Rattle.weights.specs.Judging.{rule-over, rule-rises, call-over, call-falls}
+use Rattle.polynomials.specs.Polynomials.{Weight, Weighting}
+use Rattle.polynomials.specs.Judging.{rule-over, rule-rises, call-over, call-falls}
 use Rattle.weights.specs.Working.{Weighable, Applied, verdict}
-use Rattle.checker.specs.Judge.{call}
+use Rattle.judging.specs.Judge.{call}
 
 -- a subterm has no more nodes than the term
 subterms-short : (t : Tree) → Each (λ u. length (flat u) ≤ length (flat t)) (subterms t)

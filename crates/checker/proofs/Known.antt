@@ -13,12 +13,12 @@ use Rattle.records.specs.Answers.{outcome-of}
 use Rattle.records.specs.Order.{W-weight, M-marked}
 use Rattle.weights.specs.declared.Verdict.{Verdict}
 use Rattle.weights.specs.declared.Verdict.the-variants.{Holds}
-use Rattle.weights.specs.Polynomials.{Weight, Weighting}
-use Rattle.weights.specs.Judging.{Call, any, rule-over, rule-rises, weightings-refusal, Weighed, one-more}
+use Rattle.polynomials.specs.Polynomials.{Weight, Weighting}
+use Rattle.polynomials.specs.Judging.{Call, any, rule-over, rule-rises, weightings-refusal, Weighed, one-more}
 use Rattle.weights.specs.Working.{Table-is, verdict}
-use Rattle.weights.proofs.Judged.{weighed}
+use Rattle.polynomials.proofs.Judged.{weighed}
 use Rattle.certificates.specs.Components.{Component}
-use Rattle.checker.specs.Judge.{calls, plain, weighed-refusal, component-refusal}
+use Rattle.judging.specs.Judge.{calls, plain, weighed-refusal, component-refusal}
 use Rattle.checker.specs.Working.{Component-at, Component-fits, Component-judged, Weights-at, chosen, record-count}
 use Rattle.checker.specs.Working.{rules-verdict, calls-verdict, Weights-held, Rules-known, last-weights, Known-after}
 use Rattle.checker.proofs.Positions.{header-here, weights-here, marked-here, records-counted}

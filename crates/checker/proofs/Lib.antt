@@ -1,16 +1,4 @@
--- What the judging of 8 to 13 means, and that what it accepts terminates; in the order in which to read it.
-
--- the tests of 8 and 9
-pub mod Tests
--- 10 to 13: one component, and the first component that fails
-pub mod Components
--- every number of the judging, exactly
-pub mod Shows
--- a judge that misses no arc and no rule: what it accepts terminates
-pub mod Judged
--- document 01's judge is such a one
-pub mod Plain
-pub mod Checking
+-- For the code's own proofs.
 -- 8 and 9 by the components that the pairs' slots name
 pub mod Owning
 pub mod OwnersMean

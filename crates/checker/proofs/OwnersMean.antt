@@ -13,16 +13,16 @@ use Rattle.rewriting.specs.Pairs.{Pair, is-pair}
 use Rattle.rewriting.proofs.Basics.{by-test, not-both, and-left, and-right, and-both, and-cases, or-left-false, or-right-false, or-both-false, or-cases}
 use Rattle.pairs.specs.Listing.{a-pair, pairs, same-pair, count-pair}
 use Rattle.pairs.specs.Arcs.{arc}
-use Rattle.pairs.specs.Walking.{places, rule-pairs, first-pairs}
+use Rattle.pair_finder.specs.Walking.{places, rule-pairs, first-pairs}
 use Rattle.pairs.proofs.Listed.{pairs-listed, counted-member, same-pair-refl, same-pair-eq, count-append}
-use Rattle.pairs.proofs.FromStore.{arc-any-place}
-use Rattle.weights.proofs.Lists.{mem-at}
+use Rattle.pair_finder.proofs.FromStore.{arc-any-place}
+use Rattle.polynomials.proofs.Lists.{mem-at}
 use Rattle.certificates.specs.Components.{Component}
-use Rattle.certificates.specs.Working.{first-in, pairs-in, doubled, Owned}
-use Rattle.checker.specs.Judge.{plain, all-pairs, each-once, back-arc, components-refusal, judged}
-use Rattle.checker.specs.Shown.{nth-pair, nth, Each-once, No-back-arc}
+use Rattle.certificate_reader.specs.Working.{first-in, pairs-in, doubled, Owned}
+use Rattle.judging.specs.Judge.{plain, all-pairs, each-once, back-arc, components-refusal, judged}
+use Rattle.judging.specs.Shown.{nth-pair, nth, Each-once, No-back-arc}
 use Rattle.checker.specs.Working.{owner, all-owned, lowest, back-to, any-back}
-use Rattle.checker.proofs.Tests.{each-once-means, back-arc-means}
+use Rattle.judging.proofs.Tests.{each-once-means, back-arc-means}
 
 -- COUNTING
 

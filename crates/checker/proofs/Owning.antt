@@ -13,7 +13,7 @@ use Rattle.rewriting.specs.Pairs.{Pair}
 use Rattle.rewriting.proofs.Basics.{by-test, or-left, or-right, or-both-false}
 use Rattle.pairs.specs.Listing.{a-pair}
 use Rattle.pairs.specs.Arcs.{arc}
-use Rattle.pairs.specs.Walking.{rule-pairs, first-pairs}
+use Rattle.pair_finder.specs.Walking.{rule-pairs, first-pairs}
 use Rattle.checker.specs.Working.{owner, all-owned, back-to, any-back}
 
 and-assoc : (a b c : Bool) → (a && (b && c)) ≡ ((a && b) && c)

@@ -14,7 +14,7 @@ use Rattle.records.specs.Records.{a-record, record-at, all-records}
 use Rattle.records.specs.Order.{C-component, W-weight, M-marked}
 use Rattle.records.proofs.Bytes.{drop-records, length-of-records}
 use Rattle.pairs.specs.Listing.{a-pair, pair-record, pair-records}
-use Rattle.weights.specs.Polynomials.{Weight, Weighting}
+use Rattle.polynomials.specs.Polynomials.{Weight, Weighting}
 use Rattle.certificates.specs.Components.{Component}
 use Rattle.certificates.specs.Encoding.{weight-records, weighting-records, component-records}
 use Rattle.checker.specs.Working.{Component-at, Component-fits, Weights-at, Pairs-at, weight-count, record-count}

@@ -12,7 +12,7 @@ use Rattle.records.specs.declared.Record.{Record}
 use Rattle.records.specs.Records.{a-record, record-at, all-records}
 use Rattle.records.specs.Rising.{rises, rising}
 use Rattle.records.proofs.Bytes.{drop-records, length-of-records}
-use Rattle.weights.specs.Polynomials.{Weight}
+use Rattle.polynomials.specs.Polynomials.{Weight}
 use Rattle.certificates.specs.Encoding.{no-weight, weight-records}
 use Rattle.checker.specs.Working.{Fillable, Weights-at}
 use Rattle.checker.proofs.Tables.{In-table}

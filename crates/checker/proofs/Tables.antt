@@ -12,7 +12,7 @@ use lib.Seq.{getD-set-same, getD-set-other, ext-getD}
 use borrow.Author.Tests.{ltb-true, eqb-true, eq-eqb}
 use Rattle.rewriting.proofs.Basics.{by-test, and-left, and-right, or-cases, Each, each-nil, each-cons, each-head, each-tail}
 use Rattle.records.specs.Rising.{rises, rising}
-use Rattle.weights.specs.Polynomials.{Weight, weight}
+use Rattle.polynomials.specs.Polynomials.{Weight, weight}
 use Rattle.weights.specs.Working.{Table-is}
 
 -- a weight's entry

@@ -13,10 +13,10 @@ use Rattle.rewriting.proofs.Basics.{and-left, and-right}
 use Rattle.records.specs.Outcomes.{Outcome, refused, passed}
 use Rattle.weights.specs.declared.Verdict.{Verdict}
 use Rattle.weights.specs.declared.Verdict.the-variants.{Over, Fails, Holds}
-use Rattle.weights.specs.Polynomials.{Weighting, marked-polynomial, at-least, greater, each-at-least}
-use Rattle.weights.specs.Judging.{Call, no-call, any, without, is-none, rule-over, rule-rises, call-over, call-rises, call-falls, weightings-refusal}
+use Rattle.polynomials.specs.Polynomials.{Weighting, marked-polynomial, at-least, greater, each-at-least}
+use Rattle.polynomials.specs.Judging.{Call, no-call, any, without, is-none, rule-over, rule-rises, call-over, call-rises, call-falls, weightings-refusal}
 use Rattle.weights.specs.Working.{verdict}
-use Rattle.weights.proofs.Lists.{none-pass, all-leave}
+use Rattle.polynomials.proofs.Lists.{none-pass, all-leave}
 use Rattle.weights.proofs.Working.{verdict-over, verdict-fails, verdict-holds}
 use Rattle.checker.specs.Working.{chosen}
 

@@ -1,6 +1,2 @@
--- The whole check, and what an accepted certificate shows.
-pub mod Judge
-pub mod Check
-pub mod Shown
--- how the code judges
+-- How the code judges.
 pub mod Working

@@ -15,20 +15,20 @@ use Rattle.records.specs.Order.{W-weight}
 use Rattle.records.specs.Records.{all-records}
 use Rattle.records.specs.Rising.{rising}
 use Rattle.records.specs.Answers.{outcome-of}
-use Rattle.packs.specs.Stored.{Stored}
+use Rattle.pack_reader.specs.Stored.{Stored}
 use Rattle.pairs.specs.Listing.{a-pair, pair-records}
 use Rattle.pairs.specs.Arcs.{arc}
-use Rattle.pairs.specs.Walking.{Laid}
-use Rattle.weights.specs.Polynomials.{Weight, Weighting}
+use Rattle.pair_finder.specs.Walking.{Laid}
+use Rattle.polynomials.specs.Polynomials.{Weight, Weighting}
 use Rattle.weights.specs.declared.Verdict.{Verdict}
 use Rattle.weights.specs.declared.Verdict.the-variants.{Over, Fails, Holds}
-use Rattle.weights.specs.Judging.{any, is-none, without, rule-over, rule-rises, call-over, call-falls}
+use Rattle.polynomials.specs.Judging.{any, is-none, without, rule-over, rule-rises, call-over, call-falls}
 use Rattle.weights.specs.Working.{Table-is, verdict}
 use Rattle.certificates.specs.Components.{Component, no-component}
 use Rattle.certificates.specs.Reading.{read-certificate}
 use Rattle.certificates.specs.Encoding.{weight-records, component-records}
-use Rattle.certificates.specs.Working.{Owned, doubled, pairs-in}
-use Rattle.checker.specs.Judge.{plain, calls, component-refusal}
+use Rattle.certificate_reader.specs.Working.{Owned, doubled, pairs-in}
+use Rattle.judging.specs.Judge.{plain, calls, component-refusal}
 
 -- the arrays in which a pack is kept have their lengths, and its sides lie in them
 pub record Kept-pack (rules : ℕ) (arities starts nodes marks : List ℕ) : Type 0 where

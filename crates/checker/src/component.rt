@@ -8,14 +8,14 @@ ghost use Prim.Native.Nat.{ℕ, _+_, _%_, _≤_, _<_};
 ghost use lib.ListN.{length, replicate};
 ghost use Rattle.rewriting.specs.Terms.{System};
 ghost use Rattle.rewriting.specs.Pairs.{Pair};
-ghost use Rattle.packs.specs.Stored.{Stored};
+ghost use Rattle.pack_reader.specs.Stored.{Stored};
 ghost use Rattle.records.specs.Outcomes.{refusal};
 ghost use Rattle.records.specs.Answers.{outcome-of};
 ghost use Rattle.records.specs.Order.{W-weight, M-marked};
-ghost use Rattle.weights.specs.Polynomials.{Weight};
+ghost use Rattle.polynomials.specs.Polynomials.{Weight};
 ghost use Rattle.weights.specs.Working.{Table-is};
 ghost use Rattle.certificates.specs.Components.{Component};
-ghost use Rattle.checker.specs.Judge.{components-refusal, plain};
+ghost use Rattle.judging.specs.Judge.{components-refusal, plain};
 ghost use Rattle.checker.specs.Working.{Kept-pack, Component-at, Component-fits, Component-judged, Weights-at, Pairs-at, All-pairs, chosen, calls-verdict, Rules-known, last-weights, Known-after, Components-from};
 
 // The first in the paper's order: 11 for either, 12 for the rules, 13 for the pairs.
@@ -154,7 +154,7 @@ fn unweighted(
     let r = records::record_at(certificate, 8 * (at + 1));
     let rule = r.a as usize;
     let right = starts[2 * rule + 1] as usize + r.b as usize;
-    if pairs::arcs::arc_from(arities, starts, nodes, marks, right, rule) {
+    if pair_finder::arcs::arc_from(arities, starts, nodes, marks, right, rule) {
         return Answer::Refused(Refusal::SelfArc);
     }
     Answer::Passed(at + 2)

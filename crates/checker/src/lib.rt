@@ -9,7 +9,7 @@ ghost use Prim.Native.Nat.{_%_, _≤_};
 ghost use mathlib.Core.Path.{_≡_};
 ghost use lib.ListN.{length};
 ghost use Rattle.rewriting.specs.Terms.{System};
-ghost use Rattle.checker.specs.Judge.{judged, plain};
+ghost use Rattle.judging.specs.Judge.{judged, plain};
 ghost use Rattle.checker.specs.Working.{Kept-pack, Judgeable, Judged-as};
 
 // Judges a certificate that was read: `owners` names each pair's component, `twice` says whether some pair stands twice.

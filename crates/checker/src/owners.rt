@@ -6,9 +6,9 @@ ghost use lib.ListN.{length, getD};
 ghost use Rattle.rewriting.specs.Terms.{System};
 ghost use Rattle.rewriting.specs.Pairs.{Pair};
 ghost use Rattle.terms.specs.Kept.{part};
-ghost use Rattle.packs.specs.Stored.{Stored};
+ghost use Rattle.pack_reader.specs.Stored.{Stored};
 ghost use Rattle.pairs.specs.Listing.{a-pair};
-ghost use Rattle.pairs.specs.Walking.{places, rule-pairs, first-pairs, Laid};
+ghost use Rattle.pair_finder.specs.Walking.{places, rule-pairs, first-pairs, Laid};
 ghost use Rattle.checker.specs.Working.{Kept-pack, Pair-kept, all-owned, lowest, back-to, any-back};
 
 // Each pair of a rule has its component.
@@ -25,7 +25,7 @@ fn side_owned(
 {
     let mut i = from;
     while i < to {
-        if pairs::listing::is_marked(marks, nodes[i]) {
+        if pair_finder::listing::is_marked(marks, nodes[i]) {
             if owners[32 * rule + (i - from)] == 0 {
                 return false;
             }
@@ -72,7 +72,7 @@ fn lowest_owner(
     let mut low = 65535;
     let mut i = from;
     while i < to {
-        if pairs::listing::is_marked(marks, nodes[i]) {
+        if pair_finder::listing::is_marked(marks, nodes[i]) {
             let o = owners[32 * rule + (i - from)];
             if o < low {
                 low = o;
@@ -126,7 +126,7 @@ fn back_from(
     let mut s = 0;
     while s < rules {
         if lows[s] < own {
-            if pairs::arcs::arc_from(arities, starts, nodes, marks, right, s) {
+            if pair_finder::arcs::arc_from(arities, starts, nodes, marks, right, s) {
                 return true;
             }
         }
@@ -153,7 +153,7 @@ fn back_in(
     let to = starts[2 * rule + 2] as usize;
     let mut i = from;
     while i < to {
-        if pairs::listing::is_marked(marks, nodes[i]) {
+        if pair_finder::listing::is_marked(marks, nodes[i]) {
             if back_from(
                 arities,
                 starts,

@@ -9,11 +9,11 @@ ghost use lib.ListN.{length, replicate};
 ghost use Rattle.rewriting.specs.Terms.{System};
 ghost use Rattle.rewriting.specs.Pairs.{Pair};
 ghost use Rattle.records.specs.Order.{W-weight};
-ghost use Rattle.packs.specs.Stored.{Stored};
-ghost use Rattle.weights.specs.Polynomials.{Weight};
-ghost use Rattle.weights.specs.Judging.{any, is-none, without, rule-over, rule-rises, call-over, call-falls};
+ghost use Rattle.pack_reader.specs.Stored.{Stored};
+ghost use Rattle.polynomials.specs.Polynomials.{Weight};
+ghost use Rattle.polynomials.specs.Judging.{any, is-none, without, rule-over, rule-rises, call-over, call-falls};
 ghost use Rattle.weights.specs.Working.{Table-is, verdict};
-ghost use Rattle.checker.specs.Judge.{calls};
+ghost use Rattle.judging.specs.Judge.{calls};
 ghost use Rattle.checker.specs.Working.{Kept-pack, Weights-at, Same-weights, Pairs-at, All-pairs};
 
 // Fills a table from the weight records of a kind that stand from record `from` on. Answers the record after them.

@@ -1,5 +1,3 @@
--- Packs: the reader with refusals 1 to 6, and the encoder.
+-- Packs: reading one with refusals 1 to 6, and encoding it.
 pub mod Reading
 pub mod Encoding
--- how the code keeps a pack that was read
-pub mod Stored

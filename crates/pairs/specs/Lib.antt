@@ -2,6 +2,5 @@
 pub mod Listing
 pub mod Arcs
 pub mod Answers
--- how the code goes about it
+-- the answers as the code gives them
 pub mod Says
-pub mod Walking

@@ -1,10 +1,6 @@
-// Lists a pack's dependency pairs and answers the arc question.
-pub mod arcs;
-pub mod listing;
-
+// The arc question's answer.
 use records::Refusal;
 
-// What the arc question answers.
 pub enum ArcAnswer {
     Yes,
     No,

@@ -11,14 +11,14 @@ use Rattle.packs.specs.Reading.{symbol-read, side-count, rule-read, node-zeros,
 use Rattle.packs.specs.Encoding.{node-record, node-records, symbol-records, rule-records, pack-records, pack-bytes}
 use Rattle.pairs.specs.Listing.{pairs-from, pairs-of, pairs, same-pair, count-pair, pair-record, pair-records, pair-bytes}
 use Rattle.pairs.specs.Arcs.{may-reach, arc}
-use Rattle.weights.specs.Polynomials.{weight, scaled-sum, summed, combined, polynomials, first, polynomial-of, marked-polynomial, each-at-least, at-least, greater}
-use Rattle.weights.specs.Limit.{limit, any-above, over-limit, over, marked-over}
-use Rattle.weights.specs.Judging.{any, without, is-none, rule-over, rule-rises, call-over, call-rises, call-falls, weightings-refusal}
+use Rattle.polynomials.specs.Polynomials.{weight, scaled-sum, summed, combined, polynomials, first, polynomial-of, marked-polynomial, each-at-least, at-least, greater}
+use Rattle.polynomials.specs.Limit.{limit, any-above, over-limit, over, marked-over}
+use Rattle.polynomials.specs.Judging.{any, without, is-none, rule-over, rule-rises, call-over, call-rises, call-falls, weightings-refusal}
 use Rattle.certificates.specs.Components.{with-pair, last-weighting, on-last, add-weight, add-marked, with-weight, with-marked}
 use Rattle.certificates.specs.Reading.{with-begun, components-of, has-weighting, component-read, pair-read, weight-of, weights-below, is-place, weight-read, marked-read, inside-read, cert-step, cert-end, cert-from, read-certificate}
 use Rattle.certificates.specs.Encoding.{weight-records, weighting-records, component-records, certificate-bytes}
-use Rattle.checker.specs.Judge.{plain, all-pairs, each-once, arcs-among, back-arc, call, calls, weighed-refusal, component-refusal, components-refusal, judged}
-use Rattle.checker.specs.Check.{check-read, check-pack, check}
+use Rattle.judging.specs.Judge.{plain, all-pairs, each-once, arcs-among, back-arc, call, calls, weighed-refusal, component-refusal, components-refusal, judged}
+use Rattle.judging.specs.Check.{check-read, check-pack, check}
 use Rattle.promises.specs.Examples.{division, division-shown, division-less, nothing, nested, nested-shown, nested-exchanged, constants, constants-shown, swapping, swapping-shown, loop, loop-unweighted, loop-under, shrinking, shrinking-pairs, twice, thrice, heavy-s, starred}
 
 unfoldable pub computed : ℕ

@@ -29,9 +29,9 @@ use Rattle.pairs.proofs.Listed.{pairs-listed, listing-rises}
 use Rattle.pairs.proofs.Reaching.{arcs-exactly}
 use Rattle.pairs.proofs.ArcsEnough.{arcs-enough}
 use Rattle.pairs.proofs.Ranges.{listing-range, arc-range}
-use Rattle.weights.proofs.Order.{least-means, greater-means}
-use Rattle.weights.proofs.Meaning.{polynomial-means, marked-means, sixteen, marked-sixteen}
-use Rattle.weights.proofs.LimitMeans.{over-means, marked-over-means}
+use Rattle.polynomials.proofs.Order.{least-means, greater-means}
+use Rattle.polynomials.proofs.Meaning.{polynomial-means, marked-means, sixteen, marked-sixteen}
+use Rattle.polynomials.proofs.LimitMeans.{over-means, marked-over-means}
 use Rattle.certificates.specs.Components.{Component, no-component}
 use Rattle.certificates.specs.Reading as certificates
 use Rattle.certificates.specs.Reading.{read-certificate}
@@ -39,13 +39,13 @@ use Rattle.certificates.specs.Encoding.{Good-certificate, certificate-bytes}
 use Rattle.certificates.proofs.ReadBack as certificate-back
 use Rattle.certificates.proofs.OnlyEncodings as certificate-only
 use Rattle.certificates.proofs.Refusals as certificate-refusals
-use Rattle.checker.specs.Judge.{judged, plain}
-use Rattle.checker.specs.Check.{check}
-use Rattle.checker.specs.Shown.{nth, nth-pair}
-use Rattle.checker.proofs.Components.{All-fit}
-use Rattle.checker.proofs.Shows.{judged-8, judged-9, judged-0, judged-10-to-13}
-use Rattle.checker.proofs.Checking.{check-cut, check-of-read, pack-first, then-certificate, check-range, cut-exactly, accepted}
-use Rattle.checker.proofs.Plain.{judged-plain-terminates}
+use Rattle.judging.specs.Judge.{judged, plain}
+use Rattle.judging.specs.Check.{check}
+use Rattle.judging.specs.Shown.{nth, nth-pair}
+use Rattle.judging.proofs.Components.{All-fit}
+use Rattle.judging.proofs.Shows.{judged-8, judged-9, judged-0, judged-10-to-13}
+use Rattle.judging.proofs.Checking.{check-cut, check-of-read, pack-first, then-certificate, check-range, cut-exactly, accepted}
+use Rattle.judging.proofs.Plain.{judged-plain-terminates}
 use Rattle.promises.specs.Promises
 use Rattle.promises.proofs.Starred.{starred-cases}
 use Rattle.promises.proofs.Loop.{loop-checked}

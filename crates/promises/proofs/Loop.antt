@@ -13,14 +13,14 @@ use Rattle.rewriting.proofs.Basics.{by-test}
 use Rattle.records.specs.Outcomes.{passed}
 use Rattle.records.specs.Records.{all-bytes}
 use Rattle.packs.specs.Encoding.{pack-bytes}
-use Rattle.weights.specs.Polynomials.{Weight, Weighting, weight}
-use Rattle.weights.specs.Limit.{limit}
+use Rattle.polynomials.specs.Polynomials.{Weight, Weighting, weight}
+use Rattle.polynomials.specs.Limit.{limit}
 use Rattle.certificates.specs.Reading.{read-certificate}
 use Rattle.certificates.specs.Encoding.{no-weight, Good-certificate}
 use Rattle.certificates.proofs.OnlyEncodings.{only-encodings}
-use Rattle.checker.specs.Judge.{judged, plain}
-use Rattle.checker.specs.Check.{check}
-use Rattle.checker.proofs.Checking.{check-of-read}
+use Rattle.judging.specs.Judge.{judged, plain}
+use Rattle.judging.specs.Check.{check}
+use Rattle.judging.proofs.Checking.{check-of-read}
 use Rattle.promises.specs.Examples.{loop, loop-under}
 use Rattle.promises.proofs.Computed.{computed}
 

@@ -6,7 +6,7 @@ use lib.ListN.{length}
 use Rattle.pairs.specs.Listing.{a-pair, pairs}
 use Rattle.packs.specs.Encoding.{pack-bytes}
 use Rattle.certificates.specs.Encoding.{certificate-bytes}
-use Rattle.checker.specs.Check.{check}
+use Rattle.judging.specs.Check.{check}
 use Rattle.promises.proofs.Computed.{computed}
 use Rattle.promises.specs.Examples.{Case, starred, division, division-shown, shrinking, shrinking-pairs}
 

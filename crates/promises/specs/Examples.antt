@@ -4,7 +4,7 @@ use Prim.Native.Nat.{ℕ}
 use Rattle.rewriting.specs.Terms.{Tree, var, app, nil, cons, Rule, System}
 use Rattle.rewriting.specs.Pairs.{Pair}
 use Rattle.pairs.specs.Listing.{a-pair}
-use Rattle.weights.specs.Polynomials.{Weight, Weighting}
+use Rattle.polynomials.specs.Polynomials.{Weight, Weighting}
 use Rattle.certificates.specs.Components.{Component}
 
 -- a way to write terms, rules and weights

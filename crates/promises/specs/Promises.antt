@@ -23,16 +23,16 @@ use Rattle.packs.specs.Encoding.{pack-bytes, Good-pack}
 use Rattle.pairs.specs.Listing.{pairs, count-pair}
 use Rattle.pairs.specs.Arcs.{may-reach, arc, Reaches}
 use Rattle.pairs.specs.Answers.{listing, arc-question}
-use Rattle.weights.specs.declared.Polynomial.{Polynomial}
-use Rattle.weights.specs.Polynomials.{Weight, Weighting, weight, polynomial-of, marked-polynomial, at-least, greater}
-use Rattle.weights.specs.Values.{Valuation, term-values, marked-value, value-of}
-use Rattle.weights.specs.Limit.{over, marked-over, Nodes-within, Side-within}
+use Rattle.polynomials.specs.declared.Polynomial.{Polynomial}
+use Rattle.polynomials.specs.Polynomials.{Weight, Weighting, weight, polynomial-of, marked-polynomial, at-least, greater}
+use Rattle.polynomials.specs.Values.{Valuation, term-values, marked-value, value-of}
+use Rattle.polynomials.specs.Limit.{over, marked-over, Nodes-within, Side-within}
 use Rattle.certificates.specs.Components.{Component}
 use Rattle.certificates.specs.Reading as certificates
 use Rattle.certificates.specs.Reading.{read-certificate, cert-from, cert-steps}
 use Rattle.certificates.specs.Encoding.{certificate-bytes, Good-certificate}
-use Rattle.checker.specs.Check.{check}
-use Rattle.checker.specs.Shown.{Each-once, No-back-arc, First-failure, Shows}
+use Rattle.judging.specs.Check.{check}
+use Rattle.judging.specs.Shown.{Each-once, No-back-arc, First-failure, Shows}
 use Rattle.promises.specs.Examples.{Case, starred, division, loop, loop-under, constant, app₂}
 
 -- THE THIRD DEMAND

@@ -17,21 +17,21 @@ use Rattle.records.specs.declared.Answer.the-variants.{Passed, Refused}
 use Rattle.records.specs.Outcomes.{Outcome, refused, passed, refusal}
 use Rattle.records.specs.Records.{length-bad}
 use Rattle.records.specs.Answers.{number-of, outcome-of}
-use Rattle.packs.specs.declared.Counts.{Counts}
+use Rattle.pack_reader.specs.declared.Counts.{Counts}
 use Rattle.packs.specs.Reading as packs
 use Rattle.packs.specs.Reading.{read-pack, pack-in}
-use Rattle.packs.specs.Stored.{Stored}
-use Rattle.certificates.specs.declared.Found.{Found}
-use Rattle.certificates.specs.declared.CertificateRead.{CertificateRead}
-use Rattle.certificates.specs.declared.CertificateRead.the-variants.{Read, Refused as NotRead}
+use Rattle.pack_reader.specs.Stored.{Stored}
+use Rattle.certificate_reader.specs.declared.Found.{Found}
+use Rattle.certificate_reader.specs.declared.CertificateRead.{CertificateRead}
+use Rattle.certificate_reader.specs.declared.CertificateRead.the-variants.{Read, Refused as NotRead}
 use Rattle.certificates.specs.Components.{Component}
 use Rattle.certificates.specs.Reading as certificates
 use Rattle.certificates.specs.Reading.{read-certificate}
-use Rattle.certificates.specs.Working.{Certificate-read, doubled, pairs-in, Owned}
-use Rattle.checker.specs.Judge.{judged, plain}
-use Rattle.checker.specs.Check.{check}
+use Rattle.certificate_reader.specs.Working.{Certificate-read, doubled, pairs-in, Owned}
+use Rattle.judging.specs.Judge.{judged, plain}
+use Rattle.judging.specs.Check.{check}
 use Rattle.checker.specs.Working.{Judgeable, Judged-as}
-use Rattle.checker.proofs.Checking.{check-cut, check-of-read, pack-first, then-certificate}
+use Rattle.judging.proofs.Checking.{check-cut, check-of-read, pack-first, then-certificate}
 use Rattle.promises.specs.Promises
 use Rattle.promises.proofs.Kept.{accepted-terminates}
 use Rattle.teldyzhom.specs.declared.Checked.{Checked}

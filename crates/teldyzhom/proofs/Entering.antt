@@ -15,18 +15,18 @@ use Rattle.records.specs.declared.Answer.{Answer}
 use Rattle.records.specs.declared.Answer.the-variants.{Passed, Refused}
 use Rattle.records.specs.Outcomes.{Outcome, refused, passed}
 use Rattle.records.specs.Answers.{number-of, outcome-of}
-use Rattle.packs.specs.declared.Counts.{Counts}
-use Rattle.packs.specs.declared.PackRead.{PackRead}
-use Rattle.packs.specs.declared.PackRead.the-variants.{Read, Refused as PackRefused}
+use Rattle.pack_reader.specs.declared.Counts.{Counts}
+use Rattle.pack_reader.specs.declared.PackRead.{PackRead}
+use Rattle.pack_reader.specs.declared.PackRead.the-variants.{Read, Refused as PackRefused}
 use Rattle.packs.specs.Reading.{read-pack}
-use Rattle.packs.specs.Stored.{Stored, Pack-read}
+use Rattle.pack_reader.specs.Stored.{Stored, Pack-read}
 use Rattle.pairs.specs.declared.ArcAnswer.the-variants.{Yes, No, Refused as ArcRefused}
 use Rattle.pairs.specs.Listing.{a-pair, pairs, pair-bytes}
 use Rattle.pairs.specs.Arcs.{arc}
 use Rattle.pairs.specs.Answers.{listing, buffer-after, arc-question}
 use Rattle.pairs.specs.Says.{counted, Listed-as, Arc-as}
-use Rattle.pairs.specs.Walking.{first-pairs, Arc-asked, Place-answer}
-use Rattle.pairs.proofs.FromStore.{arc-any-place, stored-pairs}
+use Rattle.pair_finder.specs.Walking.{first-pairs, Arc-asked, Place-answer}
+use Rattle.pair_finder.proofs.FromStore.{arc-any-place, stored-pairs}
 
 -- THE PACK
 

@@ -7,7 +7,7 @@ ghost use lib.ListN.{length};
 ghost use Rattle.records.specs.Outcomes.{refusal};
 ghost use Rattle.pairs.specs.Listing.{a-pair};
 ghost use Rattle.pairs.specs.Answers.{listing, arc-question, buffer-after, count-given};
-ghost use Rattle.checker.specs.Check.{check};
+ghost use Rattle.judging.specs.Check.{check};
 ghost use Rattle.teldyzhom.specs.Entries.{yes-value};
 
 // A refusal's number and 0, or 0 and a value.

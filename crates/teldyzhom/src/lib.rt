@@ -1,8 +1,8 @@
 // The loader's three entries: the check, the listing and the arc question; and the same as C functions.
 mod c;
 
-use certificates::CertificateRead;
-use packs::PackRead;
+use certificate_reader::CertificateRead;
+use pack_reader::PackRead;
 use pairs::ArcAnswer;
 use records::Answer;
 use records::Refusal;
@@ -14,7 +14,7 @@ ghost use Rattle.packs.specs.Reading.{pack-in};
 ghost use Rattle.pairs.specs.Listing.{a-pair};
 ghost use Rattle.pairs.specs.Answers.{listing, arc-question, buffer-after};
 ghost use Rattle.pairs.specs.Says.{Listed-as, Arc-as};
-ghost use Rattle.checker.specs.Check.{check};
+ghost use Rattle.judging.specs.Check.{check};
 ghost use Rattle.teldyzhom.specs.Entries.{checked-number};
 
 // What the check answers.
@@ -40,12 +40,12 @@ pub fn check_certificate(pack: &[u8], certificate: &[u8]) -> Checked
     let mut nodes = [0u8; 4096];
     let mut marks = [0u8; 64];
     let mut owners = [0u16; 2048];
-    match packs::read_pack(pack, &mut arities, &mut starts, &mut nodes, &mut marks) {
+    match pack_reader::read_pack(pack, &mut arities, &mut starts, &mut nodes, &mut marks) {
         PackRead::Refused(x) => Checked::Refused(x),
         PackRead::Read(c) => {
             let symbols = c.symbols;
             let rules = c.rules;
-            match certificates::read_certificate(
+            match certificate_reader::read_certificate(
                 certificate,
                 symbols,
                 rules,
@@ -87,15 +87,15 @@ pub fn list_pairs(pack: &[u8], list: &mut [u8]) -> Answer
     let mut starts = [0u16; 129];
     let mut nodes = [0u8; 4096];
     let mut marks = [0u8; 64];
-    match packs::read_pack(pack, &mut arities, &mut starts, &mut nodes, &mut marks) {
+    match pack_reader::read_pack(pack, &mut arities, &mut starts, &mut nodes, &mut marks) {
         PackRead::Refused(x) => Answer::Refused(x),
         PackRead::Read(c) => {
             let rules = c.rules;
-            let n = pairs::listing::count_pairs(&starts, &nodes, &marks, rules);
+            let n = pair_finder::listing::count_pairs(&starts, &nodes, &marks, rules);
             if list.len() / 8 < n {
                 return Answer::Refused(Refusal::ShortList);
             }
-            pairs::listing::write_pairs(list, &starts, &nodes, &marks, rules);
+            pair_finder::listing::write_pairs(list, &starts, &nodes, &marks, rules);
             Answer::Passed(n)
         }
     }
@@ -109,11 +109,11 @@ pub fn arc_runs(pack: &[u8], rule: u32, place: u32, other_rule: u32, other_place
     let mut starts = [0u16; 129];
     let mut nodes = [0u8; 4096];
     let mut marks = [0u8; 64];
-    match packs::read_pack(pack, &mut arities, &mut starts, &mut nodes, &mut marks) {
+    match pack_reader::read_pack(pack, &mut arities, &mut starts, &mut nodes, &mut marks) {
         PackRead::Refused(x) => ArcAnswer::Refused(x),
         PackRead::Read(c) => {
             let rules = c.rules;
-            match pairs::arcs::place_of(
+            match pair_finder::arcs::place_of(
                 &starts,
                 &nodes,
                 &marks,
@@ -123,7 +123,7 @@ pub fn arc_runs(pack: &[u8], rule: u32, place: u32, other_rule: u32, other_place
             ) {
                 Answer::Refused(x) => ArcAnswer::Refused(x),
                 Answer::Passed(right) => {
-                    match pairs::arcs::place_of(
+                    match pair_finder::arcs::place_of(
                         &starts,
                         &nodes,
                         &marks,
@@ -133,7 +133,7 @@ pub fn arc_runs(pack: &[u8], rule: u32, place: u32, other_rule: u32, other_place
                     ) {
                         Answer::Refused(x) => ArcAnswer::Refused(x),
                         Answer::Passed(_) => {
-                            if pairs::arcs::arc_from(
+                            if pair_finder::arcs::arc_from(
                                 &arities,
                                 &starts,
                                 &nodes,

@@ -15,13 +15,14 @@ use Rattle.rewriting.proofs.Basics.{by-test}
 use Rattle.rewriting.proofs.Trees.{term-not-list}
 use Rattle.terms.specs.Sides.{flat}
 use Rattle.terms.specs.Kept.{code-arity}
-use Rattle.weights.specs.Polynomials.{Weight, weight, Polynomial, polynomial, no-coefficients, scaled-sum, polynomial-of, each-at-least, at-least, greater}
-use Rattle.weights.specs.Values.{total, value-of}
-use Rattle.weights.specs.Limit.{limit, over, over-limit}
+use Rattle.polynomials.specs.declared.Polynomial.{Polynomial}
+use Rattle.polynomials.specs.Polynomials.{Weight, weight, polynomial, no-coefficients, scaled-sum, polynomial-of, each-at-least, at-least, greater}
+use Rattle.polynomials.specs.Values.{total, value-of}
+use Rattle.polynomials.specs.Limit.{limit, over, over-limit}
 use Rattle.weights.specs.Working.{Table-is, Weighable, rooted, rooted-over, added, total-of, Room, Gathered, verdict}
-use Rattle.weights.proofs.Meaning.{sixteen, rooted-sixteen, scaled-length, scaled-total, none-total, one-total}
-use Rattle.weights.proofs.LimitMeans.{not-over}
-use Rattle.weights.proofs.Working.{rooted-plain, rooted-over-plain, sides-verdict, neither-over}
+use Rattle.polynomials.proofs.Meaning.{sixteen, scaled-length, scaled-total, none-total, one-total}
+use Rattle.polynomials.proofs.LimitMeans.{not-over}
+use Rattle.weights.proofs.Working.{rooted-sixteen, rooted-plain, rooted-over-plain, sides-verdict, neither-over}
 use Rattle.weights.proofs.Arguments.{Arguments, node-within, root-variable, root-symbol}
 use Rattle.weights.proofs.Weighing.{variable-read, Sum-so-far, sums-none, sums-more, sums-all, sums-limit, no-arguments, first-split, first-argument}
 

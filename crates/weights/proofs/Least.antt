@@ -7,7 +7,7 @@ use native.Mathlib.Numerals.{add-one}
 use lib.ListN.{length, getD, drop, drop-of-length-le}
 use lib.Seq.{drop-cons}
 use borrow.Author.Tests.{lt-leb, le-leb}
-use Rattle.weights.specs.Polynomials.{each-at-least}
+use Rattle.polynomials.specs.Polynomials.{each-at-least}
 
 module _ (xs ys : List ℕ) (v : ℕ) where
   pub less : v < length xs → v < length ys → getD xs v 0 < getD ys v 0 → each-at-least (drop v xs) (drop v ys) ≡ false

@@ -1,17 +1,5 @@
--- What the judging of rules and pairs by linear interpretations means, and that it ends chains; in the order in which to read it.
-pub mod Order
-pub mod Meaning
-pub mod LimitMeans
-pub mod Small
-pub mod Compared
-pub mod Lists
-pub mod Judged
-pub mod Substitution
-pub mod Steps
-pub mod Falls
-pub mod Descent
-pub mod Weighed
--- how the code works them out
+-- For the code's own proofs: sums of coefficients, a rooted side's polynomial, the arguments of a node, and the two ways to a
+-- polynomial.
 pub mod Sums
 pub mod Least
 pub mod Working

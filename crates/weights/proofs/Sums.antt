@@ -7,11 +7,12 @@ use native.Mathlib.Nat.{le-trans, mul-le-mul-left, mul-le-mul-right}
 use native.Mathlib.Omega.{arith}
 use lib.ListN.{length, getD, getD-replicate}
 use lib.Seq.{ext-getD}
-use Rattle.weights.specs.Polynomials.{Polynomial, polynomial, no-coefficients, scaled-sum}
-use Rattle.weights.specs.Limit.{limit, over-limit}
+use Rattle.polynomials.specs.declared.Polynomial.{Polynomial}
+use Rattle.polynomials.specs.Polynomials.{polynomial, no-coefficients, scaled-sum}
+use Rattle.polynomials.specs.Limit.{limit, over-limit}
 use Rattle.weights.specs.Working.{added, most-part, Parts}
-use Rattle.weights.proofs.Meaning.{scaled-length}
-use Rattle.weights.proofs.LimitMeans.{within}
+use Rattle.polynomials.proofs.Meaning.{scaled-length}
+use Rattle.polynomials.proofs.LimitMeans.{within}
 
 -- a weight times what is within the limit
 part-small : (k n : ℕ) → k < 65536 → n ≤ limit → k * n ≤ most-part

@@ -14,8 +14,9 @@ use Rattle.rewriting.proofs.Trees.{term-not-list}
 use Rattle.terms.specs.Sides.{flat}
 use Rattle.terms.specs.Kept.{code-arity}
 use Rattle.weights.specs.declared.Formed.{Formed}
-use Rattle.weights.specs.Polynomials.{Weight, weight, Polynomial, polynomial, no-coefficients, summed, combined, polynomials, polynomial-of}
-use Rattle.weights.specs.Limit.{over, over-limit}
+use Rattle.polynomials.specs.declared.Polynomial.{Polynomial}
+use Rattle.polynomials.specs.Polynomials.{Weight, weight, polynomial, no-coefficients, summed, combined, polynomials, polynomial-of}
+use Rattle.polynomials.specs.Limit.{over, over-limit}
 use Rattle.weights.specs.Working.{Table-is, Weighable, rooted, rooted-over, Formed-as, added}
 use Rattle.weights.proofs.Working.{rooted-plain, rooted-over-plain, polynomials-cons}
 use Rattle.weights.proofs.Arguments.{Arguments, Split, split, root-symbol}

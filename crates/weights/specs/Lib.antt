@@ -1,7 +1,2 @@
--- Linear interpretations over the naturals: polynomials, their order, the limit, and judging rules and pairs by them.
-pub mod Polynomials
-pub mod Values
-pub mod Limit
-pub mod Judging
--- how the code works them out
+-- How the code works out polynomials.
 pub mod Working

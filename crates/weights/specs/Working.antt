@@ -12,10 +12,11 @@ use Rattle.terms.specs.Kept.{Kept}
 use Rattle.weights.specs.declared.Formed.{Formed}
 use Rattle.weights.specs.declared.Verdict.{Verdict}
 use Rattle.weights.specs.declared.Verdict.the-variants.{Over, Fails, Holds}
-use Rattle.weights.specs.Polynomials.{Weight, Weighting, weight, Polynomial, polynomial, no-coefficients, scaled-sum, combined, polynomials}
-use Rattle.weights.specs.Values.{value-of}
-use Rattle.weights.specs.Limit.{over, over-limit}
-use Rattle.weights.specs.Judging.{Call, rule-over, rule-rises, call-over, call-falls}
+use Rattle.polynomials.specs.declared.Polynomial.{Polynomial}
+use Rattle.polynomials.specs.Polynomials.{Weight, Weighting, weight, polynomial, no-coefficients, scaled-sum, combined, polynomials}
+use Rattle.polynomials.specs.Values.{value-of}
+use Rattle.polynomials.specs.Limit.{over, over-limit}
+use Rattle.polynomials.specs.Judging.{Call, rule-over, rule-rises, call-over, call-falls}
 
 -- a dense table of weights: nine entries a symbol, the constant and then the arguments
 pub record Table-is (table : List ℕ) (ws : List Weight) : Type 0 where

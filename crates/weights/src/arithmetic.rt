@@ -1,11 +1,11 @@
 // Sums, the limit and the order of polynomials.
-use crate::Polynomial;
+use polynomials::Polynomial;
 ghost use mathlib.Core.Path.{_≡_};
 ghost use mathlib.Core.Bool.{false};
 ghost use Prim.Native.Nat.{ℕ, _+_, _≤_, _<_};
 ghost use lib.ListN.{set};
-ghost use Rattle.weights.specs.Polynomials.{polynomial, no-coefficients, each-at-least, at-least, greater};
-ghost use Rattle.weights.specs.Limit.{over-limit, any-above};
+ghost use Rattle.polynomials.specs.Polynomials.{polynomial, no-coefficients, each-at-least, at-least, greater};
+ghost use Rattle.polynomials.specs.Limit.{over-limit, any-above};
 ghost use Rattle.weights.specs.Working.{added, Parts};
 
 pub fn constant(k: u64) -> Polynomial

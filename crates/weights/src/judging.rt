@@ -5,8 +5,8 @@ ghost use mathlib.Core.Bool.{not};
 ghost use mathlib.Core.List.{List};
 ghost use lib.ListN.{length};
 ghost use Prim.Native.Nat.{_≤_};
-ghost use Rattle.weights.specs.Polynomials.{Weight};
-ghost use Rattle.weights.specs.Judging.{rule-over, rule-rises, call-over, call-falls};
+ghost use Rattle.polynomials.specs.Polynomials.{Weight};
+ghost use Rattle.polynomials.specs.Judging.{rule-over, rule-rises, call-over, call-falls};
 ghost use Rattle.weights.specs.Working.{Table-is, Weighable, Applied, verdict};
 
 // The rule whose sides are kept at `left` and `right`: holds if its left is at least its right.

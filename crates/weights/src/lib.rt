@@ -4,20 +4,16 @@ mod exact;
 pub mod judging;
 mod quick;
 
+use polynomials::Polynomial;
 ghost use mathlib.Core.Path.{_≡_};
 ghost use mathlib.Core.Bool.{true, false};
 ghost use mathlib.Core.List.{List};
 ghost use Prim.Native.Nat.{_+_, _≤_};
 ghost use lib.ListN.{length};
 ghost use Rattle.terms.specs.Sides.{flat};
-ghost use Rattle.weights.specs.Polynomials.{Weight};
-ghost use Rattle.weights.specs.Limit.{over-limit};
+ghost use Rattle.polynomials.specs.Polynomials.{Weight};
+ghost use Rattle.polynomials.specs.Limit.{over-limit};
 ghost use Rattle.weights.specs.Working.{Table-is, Weighable, Formed-as};
-
-pub struct Polynomial {
-    pub constant: u64,
-    pub coefficients: [u64; 16],
-}
 
 // A term's polynomial and the place after the term, or that a node of it passes the limit.
 pub struct Formed {

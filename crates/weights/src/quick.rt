@@ -5,7 +5,7 @@ ghost use mathlib.Core.List.{List};
 ghost use Prim.Native.Nat.{_+_, _≤_};
 ghost use lib.ListN.{length};
 ghost use Rattle.terms.specs.Sides.{flat};
-ghost use Rattle.weights.specs.Polynomials.{Weight, each-at-least};
+ghost use Rattle.polynomials.specs.Polynomials.{Weight, each-at-least};
 ghost use Rattle.weights.specs.Working.{Table-is, Weighable, Room, Gathered};
 
 // Whether the quick way went through, the place after the term, the polynomial's value where every variable is 1, and its

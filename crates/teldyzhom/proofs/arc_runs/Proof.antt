@@ -8,7 +8,7 @@ use lib.ListN.{getD}
 use Rattle.rewriting.specs.Pairs.{is-pair}
 use Rattle.packs.specs.Reading.{read-pack}
 use Rattle.pairs.specs.Listing.{a-pair}
-use Rattle.pairs.proofs.FromStore.{stored-laid}
+use Rattle.pair_finder.proofs.FromStore.{stored-laid}
 use Rattle.teldyzhom.proofs.Entering.{Kept-as, pack-refused, pack-kept, arc-refused, no-pair, pair-at, first-missing, second-missing, may-ask, answers-yes, answers-no}
 use Rattle.teldyzhom.proofs.arc_runs.Statement.{statement}
 use Rattle.teldyzhom.proofs.arc_runs.Tie as tie

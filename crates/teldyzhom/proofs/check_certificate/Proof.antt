@@ -4,7 +4,7 @@ use native.Mathlib.Omega.{arith}
 use borrow.Author.Needs.{needs}
 use Rattle.packs.specs.Reading.{read-pack}
 use Rattle.certificates.specs.Reading.{read-certificate}
-use Rattle.pairs.proofs.FromStore.{stored-laid}
+use Rattle.pair_finder.proofs.FromStore.{stored-laid}
 use Rattle.teldyzhom.proofs.Entering.{Kept-as, pack-refused, pack-kept}
 use Rattle.teldyzhom.proofs.Checks.{Meets, meets-refused, meets-accepted, too-long, no-multiple, length-good, pack-stops, certificate-refused, Found-as, certificate-found, certificate-stops, judgeable, judge-stops, judge-passes}
 use Rattle.teldyzhom.proofs.check_certificate.Statement.{statement}

@@ -2,7 +2,7 @@
 use native.Mathlib.Omega.{arith}
 use borrow.Author.Needs.{needs}
 use Rattle.packs.specs.Reading.{read-pack}
-use Rattle.pairs.proofs.FromStore.{stored-laid}
+use Rattle.pair_finder.proofs.FromStore.{stored-laid}
 use Rattle.teldyzhom.proofs.Entering.{Kept-as, pack-refused, pack-kept, Lists, lists-refused, lists-short, room-enough, lists-all}
 use Rattle.teldyzhom.proofs.list_pairs.Statement.{statement}
 use Rattle.teldyzhom.proofs.list_pairs.Tie as tie

@@ -12,7 +12,7 @@ use borrow.Fn.PlainCycle.{Measures, is, falls, and}
 use Rattle.rewriting.proofs.Basics.{not-both}
 use Rattle.terms.proofs.code_arity.Reads as code-arity-reads
 use Rattle.weights.specs.Working.{Weighable, Parts}
-use Rattle.weights.proofs.LimitMeans.{variable-within}
+use Rattle.polynomials.proofs.LimitMeans.{variable-within}
 use Rattle.weights.proofs.Sums.{more-parts, constant-parts}
 use Rattle.weights.proofs.Arguments.{node-within, root-variable, root-symbol}
 use Rattle.weights.proofs.Weighing.{variable-read, variable-formed, Unweighed, unweighed-all, next-argument, argument-over, argument-added, all-read, all-weighed}

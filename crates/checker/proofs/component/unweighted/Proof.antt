@@ -13,16 +13,16 @@ use Rattle.records.specs.declared.Record.{Record}
 use Rattle.records.specs.declared.Answer.the-variants.{Passed, Refused}
 use Rattle.records.specs.declared.Refusal.the-variants.{SelfArc}
 use Rattle.records.specs.Records.{record-at}
-use Rattle.packs.specs.Stored.{Stored}
+use Rattle.pack_reader.specs.Stored.{Stored}
 use Rattle.pairs.specs.Listing.{a-pair, pair-record}
 use Rattle.pairs.specs.Arcs.{arc}
-use Rattle.pairs.specs.Walking.{Arc-asked}
-use Rattle.pairs.proofs.FromStore.{stored-arc, stored-arc-answer}
-use Rattle.weights.specs.Polynomials.{Weighting}
+use Rattle.pair_finder.specs.Walking.{Arc-asked}
+use Rattle.pair_finder.proofs.FromStore.{stored-arc, stored-arc-answer}
+use Rattle.polynomials.specs.Polynomials.{Weighting}
 use Rattle.certificates.specs.Components.{Component}
-use Rattle.checker.specs.Judge.{plain, weighed-refusal, component-refusal}
+use Rattle.judging.specs.Judge.{plain, weighed-refusal, component-refusal}
 use Rattle.checker.specs.Working.{Component-at, Component-fits, Component-judged, All-pairs, weight-count, record-count}
-use Rattle.checker.proofs.Components.{only-arc}
+use Rattle.judging.proofs.Components.{only-arc}
 use Rattle.checker.proofs.FromStore.{pair-in-rules}
 use Rattle.checker.proofs.Positions.{pairs-here, pair-here}
 use Rattle.checker.proofs.component.unweighted.Statement.{statement}

@@ -6,7 +6,7 @@ use native.Mathlib.Numerals.{add-one}
 use native.Mathlib.Omega.{arith}
 use borrow.Author.Tests.{not-true, not-false}
 use lib.ListN.{length, getD}
-use Rattle.pairs.specs.Walking.{rule-pairs, first-pairs}
+use Rattle.pair_finder.specs.Walking.{rule-pairs, first-pairs}
 use Rattle.checker.specs.Working.{all-owned}
 use Rattle.checker.proofs.Owning.{owned-not, owned-more}
 use Rattle.checker.proofs.owners.all_owned.Statement.{statement}

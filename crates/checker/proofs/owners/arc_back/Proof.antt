@@ -7,8 +7,8 @@ use native.Mathlib.Numerals.{add-one}
 use native.Mathlib.Omega.{arith}
 use lib.ListN.{length, getD}
 use Rattle.rewriting.specs.Terms.{System}
-use Rattle.packs.specs.Stored.{Stored}
-use Rattle.pairs.specs.Walking.{rule-pairs, first-pairs}
+use Rattle.pack_reader.specs.Stored.{Stored}
+use Rattle.pair_finder.specs.Walking.{rule-pairs, first-pairs}
 use Rattle.checker.specs.Working.{any-back}
 use Rattle.checker.proofs.Owning.{back-some, back-none}
 use Rattle.checker.proofs.owners.arc_back.Statement.{statement}

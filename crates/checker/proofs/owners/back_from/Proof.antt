@@ -13,7 +13,7 @@ use Rattle.rewriting.specs.Terms.{System}
 use Rattle.rewriting.specs.Pairs.{Pair}
 use Rattle.pairs.specs.Listing.{a-pair}
 use Rattle.pairs.specs.Arcs.{arc}
-use Rattle.pairs.specs.Walking.{Arc-asked}
+use Rattle.pair_finder.specs.Walking.{Arc-asked}
 use Rattle.checker.specs.Working.{Pair-kept, back-to}
 use Rattle.checker.proofs.Owning.{back-to-some}
 use Rattle.checker.proofs.owners.back_from.Statement.{statement}

@@ -13,11 +13,11 @@ use lib.ListN.{length, getD}
 use Rattle.rewriting.specs.Terms.{System}
 use Rattle.rewriting.specs.Pairs.{Pair, is-pair}
 use Rattle.terms.specs.Kept.{part}
-use Rattle.packs.specs.Stored.{Stored}
+use Rattle.pack_reader.specs.Stored.{Stored}
 use Rattle.pairs.specs.Listing.{a-pair}
-use Rattle.pairs.specs.Walking.{is-marked, places, rule-pairs}
-use Rattle.pairs.proofs.Marked.{places-left, none-left, marked-left, unmarked-left, all-left}
-use Rattle.pairs.proofs.FromStore.{stored-place}
+use Rattle.pair_finder.specs.Walking.{is-marked, places, rule-pairs}
+use Rattle.pair_finder.proofs.Marked.{places-left, none-left, marked-left, unmarked-left, all-left}
+use Rattle.pair_finder.proofs.FromStore.{stored-place}
 use Rattle.checker.specs.Working.{Pair-kept, owner, back-to, any-back}
 use Rattle.checker.proofs.owners.back_in.Statement.{statement}
 use Rattle.checker.proofs.owners.back_in.Tie as tie

@@ -11,8 +11,8 @@ use lib.ListN.{length, getD}
 use Rattle.rewriting.specs.Pairs.{Pair}
 use Rattle.terms.specs.Kept.{part}
 use Rattle.pairs.specs.Listing.{a-pair}
-use Rattle.pairs.specs.Walking.{is-marked, places}
-use Rattle.pairs.proofs.Marked.{places-left, none-left, marked-left, unmarked-left, all-left}
+use Rattle.pair_finder.specs.Walking.{is-marked, places}
+use Rattle.pair_finder.proofs.Marked.{places-left, none-left, marked-left, unmarked-left, all-left}
 use Rattle.checker.specs.Working.{owner, lowest}
 use Rattle.checker.proofs.owners.lowest_owner.Statement.{statement}
 use Rattle.checker.proofs.owners.lowest_owner.Tie as tie

@@ -9,7 +9,7 @@ use lib.Dec.{eqb}
 use lib.ListN.{length, getD, set, length-set}
 use lib.Seq.{getD-set-same, getD-set-other}
 use Rattle.rewriting.proofs.Basics.{by-test}
-use Rattle.pairs.specs.Walking.{rule-pairs}
+use Rattle.pair_finder.specs.Walking.{rule-pairs}
 use Rattle.checker.specs.Working.{lowest}
 use Rattle.checker.proofs.owners.lowest_owners.Statement.{statement}
 use Rattle.checker.proofs.owners.lowest_owners.Tie as tie

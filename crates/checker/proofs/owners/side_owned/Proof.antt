@@ -11,8 +11,8 @@ use borrow.Author.Tests.{lt-ltb, le-ltb}
 use lib.ListN.{length, getD}
 use Rattle.terms.specs.Kept.{part}
 use Rattle.pairs.specs.Listing.{a-pair}
-use Rattle.pairs.specs.Walking.{is-marked, places}
-use Rattle.pairs.proofs.Marked.{places-left, none-left, marked-left, unmarked-left, all-left}
+use Rattle.pair_finder.specs.Walking.{is-marked, places}
+use Rattle.pair_finder.proofs.Marked.{places-left, none-left, marked-left, unmarked-left, all-left}
 use Rattle.checker.specs.Working.{owner, all-owned}
 use Rattle.checker.proofs.owners.side_owned.Statement.{statement}
 use Rattle.checker.proofs.owners.side_owned.Tie as tie

@@ -9,7 +9,7 @@ use lib.ListN.{length, set, replicate}
 use Rattle.rewriting.proofs.Basics.{Each, each-head}
 use Rattle.records.specs.declared.Record.{Record}
 use Rattle.records.specs.Records.{record-at}
-use Rattle.weights.specs.Polynomials.{Weight}
+use Rattle.polynomials.specs.Polynomials.{Weight}
 use Rattle.weights.specs.Working.{Table-is}
 use Rattle.checker.specs.Working.{Weights-at}
 use Rattle.checker.proofs.Tables.{In-table, entry, one-cleared, all-cleared}

@@ -10,7 +10,7 @@ use lib.ListN.{length, set, length-append, length-set}
 use Rattle.rewriting.proofs.Basics.{Each, each-head, each-right}
 use Rattle.records.specs.declared.Record.{Record}
 use Rattle.records.specs.Records.{record-at}
-use Rattle.weights.specs.Polynomials.{Weight}
+use Rattle.polynomials.specs.Polynomials.{Weight}
 use Rattle.weights.specs.Working.{Table-is}
 use Rattle.checker.specs.Working.{Weights-at}
 use Rattle.checker.proofs.Tables.{In-table, Rise, empty-table, one-filled}

@@ -13,14 +13,14 @@ use Rattle.rewriting.specs.Terms.{System}
 use Rattle.rewriting.specs.Pairs.{Pair, is-pair}
 use Rattle.records.specs.declared.Record.{Record}
 use Rattle.records.specs.Records.{record-at}
-use Rattle.packs.specs.Stored.{Stored}
+use Rattle.pack_reader.specs.Stored.{Stored}
 use Rattle.pairs.specs.Listing.{a-pair, pair-record}
 use Rattle.weights.specs.declared.Verdict.{Verdict}
 use Rattle.weights.specs.declared.Verdict.the-variants.{Over, Fails, Holds}
-use Rattle.weights.specs.Polynomials.{Weight, Weighting}
-use Rattle.weights.specs.Judging.{call-over, call-falls}
+use Rattle.polynomials.specs.Polynomials.{Weight, Weighting}
+use Rattle.polynomials.specs.Judging.{call-over, call-falls}
 use Rattle.weights.specs.Working.{Table-is, Applied, verdict}
-use Rattle.checker.specs.Judge.{call, calls}
+use Rattle.judging.specs.Judge.{call, calls}
 use Rattle.checker.specs.Working.{Pairs-at, All-pairs}
 use Rattle.checker.proofs.FromStore.{weighting, pair-in-rules, left-applied, right-applied, call-answer}
 use Rattle.checker.proofs.Positions.{pair-here}

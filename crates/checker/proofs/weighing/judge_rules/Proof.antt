@@ -10,11 +10,11 @@ use borrow.Author.Needs.{needs}
 use lib.ListN.{getD, drop, drop-of-length-le}
 use lib.Seq.{drop-cons}
 use Rattle.rewriting.specs.Terms.{System, rule, no-rule}
-use Rattle.packs.specs.Stored.{Stored}
+use Rattle.pack_reader.specs.Stored.{Stored}
 use Rattle.weights.specs.declared.Verdict.{Verdict}
 use Rattle.weights.specs.declared.Verdict.the-variants.{Over, Fails, Holds}
-use Rattle.weights.specs.Polynomials.{Weight, Weighting}
-use Rattle.weights.specs.Judging.{rule-over, rule-rises}
+use Rattle.polynomials.specs.Polynomials.{Weight, Weighting}
+use Rattle.polynomials.specs.Judging.{rule-over, rule-rises}
 use Rattle.weights.specs.Working.{Table-is, Weighable, verdict}
 use Rattle.checker.proofs.FromStore.{weighting, left-weighable, right-weighable, rule-answer}
 use Rattle.checker.proofs.Verdicts.{To-judge, Found, rules-hold, rules-asked, none-judged, some-failed, none-failed, one-over, one-fails, one-holds}

@@ -10,7 +10,7 @@ use lib.ListN.{length}
 use Rattle.records.specs.declared.Record.{Record}
 use Rattle.records.specs.Records.{a-record, record-at}
 use Rattle.records.specs.Order.{W-weight}
-use Rattle.weights.specs.Polynomials.{Weight}
+use Rattle.polynomials.specs.Polynomials.{Weight}
 use Rattle.checker.specs.Working.{Weights-at, Same-weights}
 use Rattle.checker.proofs.Runs.{Goes-on, none-at-other, goes-on}
 use Rattle.checker.proofs.weighing.same_weights.Statement.{statement}

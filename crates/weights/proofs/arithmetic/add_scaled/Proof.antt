@@ -8,7 +8,8 @@ use lib.ListN.{length, getD, set, length-set}
 use lib.Seq.{getD-set-same, getD-set-other}
 use borrow.Author.Count.{below-none, below-more}
 use borrow.Author.Needs.{needs}
-use Rattle.weights.specs.Polynomials.{Polynomial, polynomial}
+use Rattle.polynomials.specs.declared.Polynomial.{Polynomial}
+use Rattle.polynomials.specs.Polynomials.{polynomial}
 use Rattle.weights.specs.Working.{added}
 use Rattle.weights.proofs.Sums.{scaled-by, constant-part, coefficient-part, one-more-part}
 use Rattle.weights.proofs.arithmetic.add_scaled.Statement.{statement}

@@ -10,7 +10,7 @@ use lib.ListN.{length, getD, drop, drop-of-length-le}
 use lib.Seq.{drop-cons}
 use borrow.Author.Needs.{needs}
 use borrow.Author.Tests.{lt-ltb, le-ltb}
-use Rattle.weights.specs.Limit.{limit, any-above}
+use Rattle.polynomials.specs.Limit.{limit, any-above}
 use Rattle.weights.proofs.arithmetic.any_above.Statement.{statement}
 use Rattle.weights.proofs.arithmetic.any_above.Tie as tie
 

@@ -1,7 +1,7 @@
 -- `weights::arithmetic::at_least` meets its contract: the constant first, then the coefficients.
 use borrow.Author.Needs.{needs}
 use borrow.Author.Tests.{lt-leb, le-leb}
-use Rattle.weights.specs.Polynomials.{at-least}
+use Rattle.polynomials.specs.Polynomials.{at-least}
 use Rattle.weights.proofs.arithmetic.at_least.Statement.{statement}
 use Rattle.weights.proofs.arithmetic.at_least.Tie as tie
 

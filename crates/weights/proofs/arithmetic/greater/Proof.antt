@@ -1,7 +1,7 @@
 -- `weights::arithmetic::greater` meets its contract: the constant first, then the coefficients.
 use borrow.Author.Needs.{needs}
 use borrow.Author.Tests.{lt-ltb, le-ltb}
-use Rattle.weights.specs.Polynomials.{greater}
+use Rattle.polynomials.specs.Polynomials.{greater}
 use Rattle.weights.proofs.arithmetic.greater.Statement.{statement}
 use Rattle.weights.proofs.arithmetic.greater.Tie as tie
 

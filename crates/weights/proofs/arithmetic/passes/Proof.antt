@@ -1,7 +1,7 @@
 -- `weights::arithmetic::passes` meets its contract: the constant first, then the coefficients.
 use borrow.Author.Needs.{needs}
 use borrow.Author.Tests.{lt-ltb, le-ltb}
-use Rattle.weights.specs.Limit.{limit, over-limit}
+use Rattle.polynomials.specs.Limit.{limit, over-limit}
 use Rattle.weights.proofs.arithmetic.passes.Statement.{statement}
 use Rattle.weights.proofs.arithmetic.passes.Tie as tie
 

@@ -3,7 +3,7 @@ use mathlib.Core.Path.{sym, _∙_}
 use mathlib.Core.Bool.{true, false}
 use borrow.Author.Needs.{needs}
 use borrow.Author.Tests.{not-true, not-false}
-use Rattle.weights.specs.Polynomials.{greater}
+use Rattle.polynomials.specs.Polynomials.{greater}
 use Rattle.weights.specs.Working.{verdict}
 use Rattle.weights.proofs.Working.{left-passes, right-passes, neither-passes, as-call}
 use Rattle.weights.proofs.exact.judge_call.Statement.{statement}

@@ -4,7 +4,7 @@ use mathlib.Core.Bool.{true, false}
 use native.Mathlib.Omega.{arith}
 use borrow.Author.Needs.{needs}
 use borrow.Author.Tests.{not-false}
-use Rattle.weights.specs.Polynomials.{greater}
+use Rattle.polynomials.specs.Polynomials.{greater}
 use Rattle.weights.specs.Working.{verdict}
 use Rattle.weights.proofs.Working.{as-call}
 use Rattle.weights.proofs.Gathering.{no-room, sums-verdict, not-above, then-greater}

@@ -4,7 +4,7 @@ use mathlib.Core.Bool.{true, false}
 use native.Mathlib.Omega.{arith}
 use borrow.Author.Needs.{needs}
 use borrow.Author.Tests.{not-false}
-use Rattle.weights.specs.Polynomials.{at-least}
+use Rattle.polynomials.specs.Polynomials.{at-least}
 use Rattle.weights.specs.Working.{verdict}
 use Rattle.weights.proofs.Working.{as-rule}
 use Rattle.weights.proofs.Gathering.{no-room, sums-verdict, below-least, then-least}

@@ -14,7 +14,7 @@ use borrow.Fn.Kinds.{In}
 use borrow.Fn.PlainCycle.{Measures, is, falls, and}
 use Rattle.rewriting.proofs.Basics.{not-both}
 use Rattle.terms.proofs.code_arity.Reads as code-arity-reads
-use Rattle.weights.specs.Limit.{limit}
+use Rattle.polynomials.specs.Limit.{limit}
 use Rattle.weights.specs.Working.{Weighable, Room}
 use Rattle.weights.proofs.Arguments.{node-within, root-variable, root-symbol}
 use Rattle.weights.proofs.Weighing.{variable-read}

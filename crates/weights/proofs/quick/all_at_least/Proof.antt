@@ -5,7 +5,7 @@ use Prim.Native.Nat.{ℕ, _-_, _≤_}
 use native.Mathlib.Omega.{arith}
 use lib.ListN.{length, drop}
 use borrow.Author.Needs.{needs}
-use Rattle.weights.specs.Polynomials.{each-at-least}
+use Rattle.polynomials.specs.Polynomials.{each-at-least}
 use Rattle.weights.proofs.Least.{less, passed, none-left}
 use Rattle.weights.proofs.quick.all_at_least.Statement.{statement}
 use Rattle.weights.proofs.quick.all_at_least.Tie as tie

@@ -1,0 +1,10 @@
+-- How the code reads: keys for two numbers, arrays for the pack, a state for what has been read
+pub mod Keys
+pub mod FromStore
+pub mod Mirrored
+-- what the table tells it; which component names a pair
+pub mod Standing
+pub mod Owners
+-- its loop: one turn, and the end
+pub mod Turns
+pub mod Ends

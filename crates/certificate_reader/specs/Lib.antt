@@ -1,0 +1,2 @@
+-- How the code reads a certificate.
+pub mod Working

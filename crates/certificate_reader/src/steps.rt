@@ -1,0 +1,200 @@
+// One record of a certificate, of a kind that may stand there.
+use crate::State;
+use crate::Stepped;
+use records::Answer;
+use records::Record;
+use records::Refusal;
+use terms::Marked;
+use terms::Symbol;
+ghost use mathlib.Core.Path.{_≡_};
+ghost use mathlib.Core.Bool.{true, _&&_};
+ghost use mathlib.Core.List.{List};
+ghost use Prim.Native.Nat.{ℕ, _≤_, _<_};
+ghost use lib.Dec.{ltb, leb};
+ghost use lib.ListN.{length, getD};
+ghost use Rattle.rewriting.specs.Terms.{System};
+ghost use Rattle.records.specs.Order.{index, may-follow};
+ghost use Rattle.pack_reader.specs.Stored.{Stored};
+ghost use Rattle.pair_finder.specs.Walking.{Laid, is-marked};
+ghost use Rattle.certificates.specs.Components.{Component};
+ghost use Rattle.certificates.specs.Reading.{Reading, cert-step, component-read, pair-read, weight-read, marked-read};
+ghost use Rattle.certificate_reader.specs.Working.{key, Sound-state, Mirrors, Goes-on, Steps-as};
+ghost use mathlib.Core.Option.{some};
+
+// Two numbers as one that rises with them.
+fn key(a: u16, b: u16) -> u64
+    ensures { λ r. ⌜ (r ≡ key a b) × (r ≤ 4294967296) ⌝ }
+{
+    65536 * (a as u64) + (b as u64) + 1
+}
+
+// C: its number, weightings and pairs.
+fn component(r: Record, s: State) -> Stepped
+    requires { ⌜ s .number < 65536 ⌝ }
+    ensures on { λ t. ⌜ Goes-on s t ⌝ }
+    ensures means { λ t. ⌜ ((x : Reading) → Mirrors s x → r .kind ≡ 67 → Steps-as (component-read r x) t) ⌝ }
+{
+    if r.one != 0 {
+        return Stepped::Refused(Refusal::StrayRecord);
+    }
+    if r.a as usize != s.number {
+        return Stepped::Refused(Refusal::StrayRecord);
+    }
+    if r.b == 0 {
+        if 1 < r.c {
+            return Stepped::Refused(Refusal::StrayRecord);
+        }
+    }
+    if 1 < r.b {
+        return Stepped::Refused(Refusal::OutOfRange);
+    }
+    if r.c < 1 {
+        return Stepped::Refused(Refusal::OutOfRange);
+    }
+    if 2048 < r.c {
+        return Stepped::Refused(Refusal::OutOfRange);
+    }
+    Stepped::On(State {
+        last: 6,
+        number: s.number + 1,
+        due: r.c as usize,
+        weighted: r.b == 1,
+        pair_key: 0,
+        weight_key: 0,
+        marked_key: 0,
+    })
+}
+
+// P: a rule and a place, rising; 7 where they name no pair.
+fn pair(r: Record, s: State, rules: usize, starts: &[u16], nodes: &[u8], marks: &[u8]) -> Stepped
+    requires { ⌜ Laid (now starts) (now nodes) rules × (length (now marks) ≡ 64) × (1 ≤ s .due) ⌝ }
+    ensures on { λ t. ⌜ Goes-on s t ⌝ }
+    ensures means { λ t. ⌜ ((p : System) (symbols : ℕ) (arities : List ℕ) (x : Reading) (c : Component) → Stored p symbols rules arities (now (starts .entry)) (now (nodes .entry)) (now (marks .entry)) → Mirrors s x → x .begun ≡ some c → r .kind ≡ 80 → Steps-as (pair-read p r x c) t) ⌝ }
+{
+    if r.one != 0 {
+        return Stepped::Refused(Refusal::StrayRecord);
+    }
+    if r.c != 0 {
+        return Stepped::Refused(Refusal::StrayRecord);
+    }
+    let k = key(r.a, r.b);
+    if k <= s.pair_key {
+        return Stepped::Refused(Refusal::StrayRecord);
+    }
+    match pair_finder::arcs::place_of(starts, nodes, marks, rules, r.a as usize, r.b as usize) {
+        Answer::Refused(x) => Stepped::Refused(x),
+        Answer::Passed(_) => Stepped::On(State {
+            last: 7,
+            number: s.number,
+            due: s.due - 1,
+            weighted: s.weighted,
+            pair_key: k,
+            weight_key: s.weight_key,
+            marked_key: s.marked_key,
+        }),
+    }
+}
+
+// The symbol's constant, or one of its arguments.
+fn is_place(arities: &[u8], symbols: usize, f: Symbol, i: u16) -> bool
+    requires { ⌜ (length (now arities) ≡ 64) × (symbols ≤ 64) ⌝ }
+    ensures { λ r. ⌜ r ≡ (ltb (f .0) symbols && leb i (getD (now (arities .entry)) (f .0) 0)) ⌝ }
+{
+    let a = f.0 as usize;
+    if symbols <= a {
+        return false;
+    }
+    i <= arities[a] as u16
+}
+
+// The same of a tuple symbol, which a defined symbol has.
+fn is_marked_place(arities: &[u8], symbols: usize, marks: &[u8], f: Marked, i: u16) -> bool
+    requires { ⌜ (length (now arities) ≡ 64) × (length (now marks) ≡ 64) × (symbols ≤ 64) ⌝ }
+    ensures { λ r. ⌜ r ≡ ((ltb (f .0) symbols && leb i (getD (now (arities .entry)) (f .0) 0)) && is-marked (now (marks .entry)) (f .0)) ⌝ }
+{
+    if !is_place(arities, symbols, Symbol(f.0), i) {
+        return false;
+    }
+    pair_finder::listing::is_marked(marks, f.0 as u8)
+}
+
+// W: a symbol, a place of it and the value there.
+fn weight(r: Record, s: State, symbols: usize, arities: &[u8]) -> Stepped
+    requires { ⌜ (length (now arities) ≡ 64) × (symbols ≤ 64) × (s .weighted ≡ true) ⌝ }
+    ensures on { λ t. ⌜ Goes-on s t ⌝ }
+    ensures means { λ t. ⌜ ((p : System) (rules : ℕ) (starts nodes marks : List ℕ) (x : Reading) (c : Component) → Stored p symbols rules (now (arities .entry)) starts nodes marks → Mirrors s x → x .begun ≡ some c → s .due ≡ 0 → r .kind ≡ 87 → Steps-as (weight-read p r x c) t) ⌝ }
+{
+    if r.one != 0 {
+        return Stepped::Refused(Refusal::StrayRecord);
+    }
+    let k = key(r.a, r.b);
+    if k <= s.weight_key {
+        return Stepped::Refused(Refusal::StrayRecord);
+    }
+    if !is_place(arities, symbols, Symbol(r.a), r.b) {
+        return Stepped::Refused(Refusal::OutOfRange);
+    }
+    Stepped::On(State {
+        last: 8,
+        number: s.number,
+        due: 0,
+        weighted: s.weighted,
+        pair_key: s.pair_key,
+        weight_key: k,
+        marked_key: s.marked_key,
+    })
+}
+
+// M: the same of a tuple symbol.
+fn marked(r: Record, s: State, symbols: usize, arities: &[u8], marks: &[u8]) -> Stepped
+    requires { ⌜ (length (now arities) ≡ 64) × (length (now marks) ≡ 64) × (symbols ≤ 64) × (s .weighted ≡ true) ⌝ }
+    ensures on { λ t. ⌜ Goes-on s t ⌝ }
+    ensures means { λ t. ⌜ ((p : System) (rules : ℕ) (starts nodes : List ℕ) (x : Reading) (c : Component) → Stored p symbols rules (now (arities .entry)) starts nodes (now (marks .entry)) → Mirrors s x → x .begun ≡ some c → s .due ≡ 0 → r .kind ≡ 77 → Steps-as (marked-read p r x c) t) ⌝ }
+{
+    if r.one != 0 {
+        return Stepped::Refused(Refusal::StrayRecord);
+    }
+    let k = key(r.a, r.b);
+    if k <= s.marked_key {
+        return Stepped::Refused(Refusal::StrayRecord);
+    }
+    if !is_marked_place(arities, symbols, marks, Marked(r.a), r.b) {
+        return Stepped::Refused(Refusal::OutOfRange);
+    }
+    Stepped::On(State {
+        last: 9,
+        number: s.number,
+        due: 0,
+        weighted: s.weighted,
+        pair_key: s.pair_key,
+        weight_key: s.weight_key,
+        marked_key: k,
+    })
+}
+
+// One record, of a kind that the table lets stand here.
+pub fn step(
+    r: Record,
+    s: State,
+    symbols: usize,
+    rules: usize,
+    arities: &[u8],
+    starts: &[u16],
+    nodes: &[u8],
+    marks: &[u8],
+) -> Stepped
+    requires { ⌜ (s .number < 65536) × (symbols ≤ 64) × (length (now arities) ≡ 64) × Laid (now starts) (now nodes) rules × (length (now marks) ≡ 64) × Sound-state s × (may-follow (s .last) (index (r .kind)) (s .due) (s .weighted) ≡ true) ⌝ }
+    ensures on { λ t. ⌜ Goes-on s t ⌝ }
+    ensures means { λ t. ⌜ ((p : System) (x : Reading) → Stored p symbols rules (now (arities .entry)) (now (starts .entry)) (now (nodes .entry)) (now (marks .entry)) → Mirrors s x → Steps-as (cert-step p r x) t) ⌝ }
+{
+    if r.kind == b'C' {
+        return component(r, s);
+    }
+    if r.kind == b'P' {
+        return pair(r, s, rules, starts, nodes, marks);
+    }
+    if r.kind == b'W' {
+        return weight(r, s, symbols, arities);
+    }
+    marked(r, s, symbols, arities, marks)
+}

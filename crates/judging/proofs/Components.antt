@@ -1,0 +1,225 @@
+-- 10 to 13 exactly: a component's number says which of document 01's demands it fails first, and the components' number
+-- which component is the first to fail.
+use mathlib.Core.Path.{_≡_, refl, sym, _∙_}
+use mathlib.Core.Bool.{true, cond, or-false}
+use mathlib.Core.Logic.{_↔_, _⊎_, inl, inr, ⊎-elim}
+use mathlib.Core.List.{List, [], _∷_}
+use Prim.Native.Nat.{ℕ, zero, suc, _≤_, _<_}
+use native.Mathlib.Omega.{arith}
+use lib.Dec.{eqb}
+use lib.ListN.{length, getD}
+use borrow.Author.Tests.{eqb-true, eqb-false, ne-eqb}
+use Rattle.rewriting.specs.Terms.{System}
+use Rattle.rewriting.specs.Pairs.{Pair, is-pair}
+use Rattle.rewriting.specs.Systems.{Good}
+use Rattle.rewriting.proofs.Basics.{by-test, not-both, cond-true, cond-false, cond-first, cond-second, cond-cases}
+use Rattle.rewriting.proofs.Basics.{Each, each-nil, each-cons, each-by, each-at}
+use Rattle.pairs.specs.Listing.{a-pair}
+use Rattle.pairs.specs.Arcs.{arc}
+use Rattle.pairs.proofs.Listed.{either}
+use Rattle.polynomials.specs.Polynomials.{Weighting}
+use Rattle.polynomials.specs.Judging.{any, All-within, Rules-kept, Calls-fall}
+use Rattle.polynomials.proofs.Small.{Small, good-small}
+use Rattle.polynomials.proofs.Judged.{Judging-number, judging-numbers, Exactly, one-weighting}
+use Rattle.certificates.specs.Components.{Component, no-component}
+use Rattle.certificates.specs.Encoding.{Good-certificate}
+use Rattle.judging.specs.Judge.{Judge, plain, arcs-among, call, calls, weighed-refusal, component-refusal, components-refusal}
+use Rattle.judging.specs.Shown.{nth-pair, nth, No-self-arc, Under, Component-shows, First-failure}
+use Rattle.judging.specs.Shown.{Fails, self-arc, over-limit, rule-rises, pair-stays}
+
+-- what the judging asks of a component for its numbers to mean this; no more of what a good component is
+pub record Fit (p : System) (c : Component) : Type 0 where
+  pub few : length (c .weightings) ≤ 1
+  pub alone : length (c .weightings) ≡ 0 → length (c .pairs) ≡ 1
+  pub are-pairs : (k : ℕ) → k < length (c .pairs) → is-pair p (nth-pair c k) ≡ true
+
+abbrev pub All-fit : System → List Component → Type 0
+All-fit p cs = (i : ℕ) → i < length cs → Fit p (nth cs i)
+
+pub good-fit : (p : System) (cs : List Component) → Good-certificate p cs → All-fit p cs
+unfolding Good-certificate nth nth-pair
+good-fit p cs good i h = record { few = good i h .weightings-few; alone = good i h .alone; are-pairs = good i h .are-pairs }
+
+-- ONE COMPONENT, under document 01's judge
+
+pub only-arc : (p : System) (d : Pair) (qs : List Pair) → length qs ≡ 1 → arcs-among (plain p) qs qs ≡ arc p (getD qs 0 d) (getD qs 0 d)
+unfolding arcs-among any plain
+only-arc p d [] h = absurd (omega arith)
+only-arc p d (q ∷ []) h = or-false _ ∙ or-false _
+only-arc p d (q ∷ r ∷ qs) h = absurd (omega arith)
+
+module _ (p : System) (good : Good p) (c : Component) (fit : Fit p c) where
+  small : Small (p .rules) (calls p (c .pairs))
+  unfolding call calls nth-pair
+  small = good-small p good (c .pairs) (each-by (a-pair 0 0) (c .pairs) (fit .are-pairs))
+
+  -- with one weighting its number is that of the weights, without any the one arc decides
+  weighting-exactly : (w : Weighting) →
+      Exactly (weighed-refusal p (plain p) c (w ∷ []))
+      (All-within (p .rules) w (calls p (c .pairs))) (Rules-kept (p .rules) w) (Calls-fall w (calls p (c .pairs)))
+  unfolding weighed-refusal plain
+  weighting-exactly w = one-weighting (p .rules) w (calls p (c .pairs)) small
+
+  self-arc-number : length (c .pairs) ≡ 1 → weighed-refusal p (plain p) c [] ≡ cond (arc p (nth-pair c 0) (nth-pair c 0)) 10 0
+  unfolding weighed-refusal nth-pair
+  self-arc-number one = rw (only-arc p (a-pair 0 0) (c .pairs) one)
+
+  -- what a fit component's weightings are like
+  abbrev Few : List Weighting → Type 0
+  Few ws = (length ws ≤ 1) × (length ws ≡ 0 → length (c .pairs) ≡ 1)
+
+  under-shows : (ws : List Weighting) → Few ws → (weighed-refusal p (plain p) c ws ≡ 0) ↔ Under p c ws
+  unfolding Under No-self-arc
+  under-shows [] few =
+      rw (self-arc-number (few .1 refl)) (λ h. cond-second _ 10 0 (λ e. omega arith) h .0, λ h. cond-false 10 0 h)
+  under-shows (w ∷ []) few =
+      let exactly = weighting-exactly w in (
+        λ h. let s = exactly .accepts .0 h in record { within = s .0; rules-kept = s .1; pairs-fall = s .2 },
+        λ s. exactly .accepts .1 (s .within, s .rules-kept, s .pairs-fall),
+      )
+  under-shows (w ∷ v ∷ ws) few = absurd (omega arith)
+
+  weighting-fails : (w : Weighting) (n : ℕ) → 10 ≤ n → Judging-number n → weighed-refusal p (plain p) c (w ∷ []) ≡ n → Fails p c n (w ∷ [])
+  weighting-fails w n b (inl z) h = absurd (omega arith)
+  weighting-fails w n b (inr (inl z)) h = rw z (over-limit w (weighting-exactly w .refuses-11 .0 (h ∙ z)))
+  weighting-fails w n b (inr (inr (inl z))) h =
+      let f = weighting-exactly w .refuses-12 .0 (h ∙ z) in rw z (rule-rises w (f .0) (f .1))
+  weighting-fails w n b (inr (inr (inr z))) h =
+      let f = weighting-exactly w .refuses-13 .0 (h ∙ z) in rw z (pair-stays w (f .0) (f .1) (f .2))
+
+  under-fails : (n : ℕ) → 10 ≤ n → (ws : List Weighting) → Few ws → weighed-refusal p (plain p) c ws ≡ n → Fails p c n ws
+  unfolding No-self-arc weighed-refusal plain
+  under-fails n b [] few h =
+      let k = cond-first _ 10 0 (λ e. omega arith) (sym (self-arc-number (few .1 refl)) ∙ h) in
+      rw (← (k .1)) (self-arc (λ none. not-both _ (k .0) none))
+  under-fails n b (w ∷ []) few h = weighting-fails w n b (rw h at (judging-numbers (p .rules) (w ∷ []) (calls p (c .pairs)))) h
+  under-fails n b (w ∷ v ∷ ws) few h = absurd (omega arith)
+
+  fails-under : {n : ℕ} {ws : List Weighting} → Few ws → Fails p c n ws → weighed-refusal p (plain p) c ws ≡ n
+  unfolding No-self-arc
+  fails-under few (self-arc f) =
+      self-arc-number (few .1 refl) ∙ by-test (arc p (nth-pair c 0) (nth-pair c 0)) (cond-true 10 0) (λ none. absurd (f none))
+  fails-under few (over-limit w f) = weighting-exactly w .refuses-11 .1 f
+  fails-under few (rule-rises w a f) = weighting-exactly w .refuses-12 .1 (a, f)
+  fails-under few (pair-stays w a k f) = weighting-exactly w .refuses-13 .1 (a, k, f)
+
+  few : Few (c .weightings)
+  few = (fit .few, fit .alone)
+
+  -- its number is 0 exactly if it shows what it must
+  component-shows : (component-refusal p (plain p) c ≡ 0) ↔ Component-shows p c
+  unfolding component-refusal Component-shows
+  component-shows = under-shows (c .weightings) few
+
+  -- else its number is that of its first failure
+  component-fails : (n : ℕ) → 10 ≤ n → (component-refusal p (plain p) c ≡ n) ↔ Fails p c n (c .weightings)
+  unfolding component-refusal
+  component-fails n b = (under-fails n b (c .weightings) few, fails-under few)
+
+-- ALL COMPONENTS, under any judge
+
+-- component i is the first whose number is not 0, and its number is n
+record First (p : System) (j : Judge) (cs : List Component) (n : ℕ) : Type 0 where
+  i : ℕ
+  in-range : i < length cs
+  lower : (k : ℕ) → k < i → component-refusal p j (nth cs k) ≡ 0
+  here : component-refusal p j (nth cs i) ≡ n
+
+module _ (p : System) (j : Judge) where
+  -- the first component passes and the others give the number, or it gives the number itself
+  first-or-others : (c : Component) (cs : List Component) (n : ℕ) → components-refusal p j (c ∷ cs) ≡ n →
+      ((component-refusal p j c ≡ 0) × (components-refusal p j cs ≡ n)) ⊎ ((component-refusal p j c ≡ n) × (n ≡ 0 → ⊥))
+  unfolding components-refusal
+  first-or-others c cs n h =
+      ⊎-elim
+      (λ k. inl (eqb-true _ 0 (k .0), k .1))
+      (λ k. inr (k .1, λ e. eqb-false _ 0 (k .0) (k .1 ∙ e)))
+      (cond-cases (eqb (component-refusal p j c) 0) (components-refusal p j cs) (component-refusal p j c) h)
+
+  pub none-refused : (cs : List Component) → components-refusal p j cs ≡ 0 → Each (λ c. component-refusal p j c ≡ 0) cs
+  none-refused [] h = each-nil
+  none-refused (c ∷ cs) h =
+      ⊎-elim (λ k. each-cons c cs (k .0) (none-refused cs (k .1))) (λ k. absurd (k .1 refl)) (first-or-others c cs 0 h)
+
+  refused-none : {cs : List Component} → Each (λ c. component-refusal p j c ≡ 0) cs → components-refusal p j cs ≡ 0
+  unfolding components-refusal
+  refused-none each-nil = refl
+  refused-none (each-cons c cs h hs) = rw h (refused-none hs)
+
+  later : (c : Component) (cs : List Component) (n : ℕ) → component-refusal p j c ≡ 0 → First p j cs n → First p j (c ∷ cs) n
+  unfolding nth
+  later c cs n h f = record { i = suc (f .i); in-range = omega (arith, f .in-range); lower = lower; here = f .here }
+    where
+      lower : (k : ℕ) → k < suc (f .i) → component-refusal p j (nth (c ∷ cs) k) ≡ 0
+      lower zero b = h
+      lower (suc k) b = f .lower k (omega arith)
+
+  first-refused : (cs : List Component) (n : ℕ) → 10 ≤ n → components-refusal p j cs ≡ n → First p j cs n
+  unfolding components-refusal nth
+  first-refused [] n b h = absurd (omega arith)
+  first-refused (c ∷ cs) n b h =
+      ⊎-elim
+      (λ k. later c cs n (k .0) (first-refused cs n b (k .1)))
+      (λ k. record { i = 0; in-range = omega arith; lower = λ i l. absurd (omega arith); here = k .0 })
+      (first-or-others c cs n h)
+
+  refused-first : (cs : List Component) (n i : ℕ) → 10 ≤ n → i < length cs → ((k : ℕ) → k < i → component-refusal p j (nth cs k) ≡ 0) →
+      component-refusal p j (nth cs i) ≡ n → components-refusal p j cs ≡ n
+  unfolding components-refusal nth
+  refused-first [] n i b l lower here = absurd (omega arith)
+  refused-first (c ∷ cs) n zero b l lower here = rw (ne-eqb (component-refusal p j c) 0 (λ e. omega arith)) here
+  refused-first (c ∷ cs) n (suc i) b l lower here =
+      rw (lower 0 (omega arith)) (refused-first cs n i b (omega arith) (λ k d. lower (suc k) (omega arith)) here)
+
+-- under document 01's judge
+module _ (p : System) (good : Good p) (cs : List Component) (fit : All-fit p cs) where
+  -- their number is 0 exactly if each shows what it must
+  pub components-show : (components-refusal p (plain p) cs ≡ 0) ↔ ((i : ℕ) → i < length cs → Component-shows p (nth cs i))
+  unfolding nth
+  components-show = (
+    λ h i b. component-shows p good _ (fit i b) .0 (each-at no-component (none-refused p (plain p) cs h) i b),
+    λ show. refused-none p (plain p) (each-by no-component cs (λ i b. component-shows p good _ (fit i b) .1 (show i b))),
+  )
+
+  -- else it is that of the first failure
+  pub components-fail : (n : ℕ) → 10 ≤ n → (components-refusal p (plain p) cs ≡ n) ↔ First-failure p cs n
+  unfolding nth
+  components-fail n b = (to, from)
+    where
+      to : components-refusal p (plain p) cs ≡ n → First-failure p cs n
+      to h =
+          let f = first-refused p (plain p) cs n b h in
+          record {
+            i = f .i;
+            in-range = f .in-range;
+            lower-show = λ k l. component-shows p good _ (fit k (omega (arith, f .in-range))) .0 (f .lower k l);
+            fails = component-fails p good _ (fit (f .i) (f .in-range)) n b .0 (f .here);
+          }
+
+      from : First-failure p cs n → components-refusal p (plain p) cs ≡ n
+      from f =
+          refused-first p (plain p) cs n (f .i) b (f .in-range)
+          (λ k l. component-shows p good _ (fit k (omega (arith, f .in-range))) .1 (f .lower-show k l))
+          (component-fails p good _ (fit (f .i) (f .in-range)) n b .1 (f .fails))
+
+-- THE NUMBERS that are given, by any judge
+abbrev pub Component-number : ℕ → Type 0
+Component-number n = (n ≡ 0) ⊎ ((10 ≤ n) × (n ≤ 13))
+
+weighted-number : {n : ℕ} → Judging-number n → Component-number n
+weighted-number (inl h) = inl h
+weighted-number (inr (inl h)) = inr (omega arith)
+weighted-number (inr (inr (inl h))) = inr (omega arith)
+weighted-number (inr (inr (inr h))) = inr (omega arith)
+
+module _ (p : System) (j : Judge) where
+  component-number : (c : Component) (ws : List Weighting) → Component-number (weighed-refusal p j c ws)
+  unfolding weighed-refusal
+  component-number c [] = either Component-number (arcs-among j (c .pairs) (c .pairs)) (inr (omega arith)) (inl refl)
+  component-number c (w ∷ ws) = weighted-number (judging-numbers (j .rules c) (w ∷ ws) (calls p (c .pairs)))
+
+  pub components-number : (cs : List Component) → Component-number (components-refusal p j cs)
+  unfolding components-refusal component-refusal
+  components-number [] = inl refl
+  components-number (c ∷ cs) =
+      either Component-number (eqb (component-refusal p j c) 0) (components-number cs) (component-number c (c .weightings))

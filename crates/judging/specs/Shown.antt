@@ -1,0 +1,70 @@
+-- What a certificate must show, in document 01's words: no test, no reader, no polynomial's order.
+use mathlib.Core.Path.{_≡_}
+use mathlib.Core.Bool.{Bool, true, false}
+use mathlib.Core.List.{List, [], _∷_}
+use Prim.Native.Nat.{ℕ, _<_}
+use lib.ListN.{length, getD}
+use Rattle.rewriting.specs.Terms.{System}
+use Rattle.rewriting.specs.Pairs.{Pair, is-pair}
+use Rattle.pairs.specs.Listing.{a-pair, count-pair}
+use Rattle.pairs.specs.Arcs.{arc}
+use Rattle.polynomials.specs.Polynomials.{Weighting}
+use Rattle.polynomials.specs.Judging.{All-within, Rules-kept, Calls-fall}
+use Rattle.certificates.specs.Components.{Component, no-component}
+use Rattle.judging.specs.Judge.{all-pairs, calls}
+
+unfoldable pub nth-pair : Component → ℕ → Pair
+nth-pair c k = getD (c .pairs) k (a-pair 0 0)
+
+unfoldable pub nth : List Component → ℕ → Component
+nth cs i = getD cs i no-component
+
+-- every pair of the pack stands exactly once
+unfoldable pub Each-once : System → List Component → Type 0
+Each-once p cs = (q : Pair) → is-pair p q ≡ true → count-pair q (all-pairs cs) ≡ 1
+
+-- no arc leads from component i to a component j with a lower number
+unfoldable pub No-back-arc : System → List Component → Type 0
+No-back-arc p cs =
+    (i j k l : ℕ) → j < i → i < length cs → k < length (nth cs i .pairs) → l < length (nth cs j .pairs) →
+    arc p (nth-pair (nth cs i) k) (nth-pair (nth cs j) l) ≡ false
+
+-- a component without a weighting has no arc from its pair to itself
+unfoldable pub No-self-arc : System → Component → Type 0
+No-self-arc p c = arc p (nth-pair c 0) (nth-pair c 0) ≡ false
+
+-- in one with a weighting every rule's left is at least its right, every pair's left is greater than its right, and every
+-- node is within the limit
+pub record Weighs (p : System) (w : Weighting) (c : Component) : Type 0 where
+  pub within : All-within (p .rules) w (calls p (c .pairs))
+  pub rules-kept : Rules-kept (p .rules) w
+  pub pairs-fall : Calls-fall w (calls p (c .pairs))
+
+unfoldable pub Under : System → Component → List Weighting → Type 0
+Under p c [] = No-self-arc p c
+Under p c (w ∷ ws) = Weighs p w c
+
+unfoldable pub Component-shows : System → Component → Type 0
+Component-shows p c = Under p c (c .weightings)
+
+pub record Shows (p : System) (cs : List Component) : Type 0 where
+  pub each-once : Each-once p cs
+  pub no-back-arc : No-back-arc p cs
+  pub components-show : (i : ℕ) → i < length cs → Component-shows p (nth cs i)
+
+-- a component's first failure, by its number in document 01's table
+pub data Fails (p : System) (c : Component) : (number : ℕ) → List Weighting → Type 0 where
+  self-arc : (No-self-arc p c → ⊥) → Fails p c 10 []
+  over-limit : (w : Weighting) → (All-within (p .rules) w (calls p (c .pairs)) → ⊥) → Fails p c 11 (w ∷ [])
+  rule-rises :
+      (w : Weighting) → All-within (p .rules) w (calls p (c .pairs)) → (Rules-kept (p .rules) w → ⊥) → Fails p c 12 (w ∷ [])
+  pair-stays :
+      (w : Weighting) → All-within (p .rules) w (calls p (c .pairs)) → Rules-kept (p .rules) w → (Calls-fall w (calls p (c .pairs)) → ⊥) →
+      Fails p c 13 (w ∷ [])
+
+-- component i is the first that does not show what it must, and fails at this number
+pub record First-failure (p : System) (cs : List Component) (number : ℕ) : Type 0 where
+  pub i : ℕ
+  pub in-range : i < length cs
+  pub lower-show : (j : ℕ) → j < i → Component-shows p (nth cs j)
+  pub fails : Fails p (nth cs i) number (nth cs i .weightings)

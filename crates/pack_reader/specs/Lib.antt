@@ -1,0 +1,2 @@
+-- How the code keeps a pack that was read.
+pub mod Stored

@@ -1,0 +1,151 @@
+-- How the code keeps a pack that was read: in arrays that the caller lends, a byte a node. The contracts between our own
+-- functions speak of it; no promise to a user does.
+use mathlib.Core.Path.{_≡_}
+use mathlib.Core.Bool.{Bool, true, false, _&&_, _||_, cond}
+use mathlib.Core.List.{List, [], _∷_, _++_, map}
+use mathlib.Core.Option.{Option, none, some}
+use Prim.Native.Nat.{ℕ, zero, suc, _+_, _*_, _-_, _≤_, _<_}
+use lib.Dec.{ltb, leb, eqb}
+use lib.ListN.{length, getD, take, drop}
+use Rattle.rewriting.specs.Terms.{Tree, Rule, System, rule}
+use Rattle.rewriting.specs.Pairs.{defined}
+use Rattle.rewriting.specs.Systems.{member}
+use Rattle.records.specs.declared.Record.{Record}
+use Rattle.records.specs.declared.Answer.{Answer}
+use Rattle.records.specs.declared.Refusal.{Refusal}
+use Rattle.records.specs.Answers.{number-of, outcome-of}
+use Rattle.records.specs.Outcomes.{Outcome, refused, passed, after}
+use Rattle.records.specs.Records.{all-records}
+use Rattle.records.specs.Order.{S-symbol, R-rule, V-variable, index, may-follow}
+use Rattle.terms.specs.Sides.{Node, variable, symbol, flat, side}
+use Rattle.terms.specs.Kept.{code, codes, Kept, balanced}
+use Rattle.packs.specs.Reading.{Reading, between-rules, read-pack, pack-from, node-zeros, node-in-range, node-of, rule-of, rule-ended, side-count, most-symbols, most-arity, most-rules, variable-count}
+use Rattle.packs.specs.Encoding.{Good-pack}
+use Rattle.pack_reader.specs.declared.Counts.{Counts}
+use Rattle.pack_reader.specs.declared.PackRead.{PackRead}
+use Rattle.pack_reader.specs.declared.PackRead.the-variants.{Read, Refused as PackRefused}
+
+-- rule i's left side begins at starts[2i], its right side at starts[2i + 1], and ends where the next left side begins
+pub record Rule-at (starts nodes : List ℕ) (i : ℕ) (r : Rule) : Type 0 where
+  pub left-kept : Kept nodes (getD starts (2 * i) 0) (flat (r .left))
+  pub right-kept : Kept nodes (getD starts (2 * i + 1) 0) (flat (r .right))
+  pub left-long : getD starts (2 * i + 1) 0 ≡ getD starts (2 * i) 0 + length (flat (r .left))
+  pub right-long : getD starts (2 * i + 2) 0 ≡ getD starts (2 * i + 1) 0 + length (flat (r .right))
+
+-- symbols' arities, rules and their nodes, and a mark of 1 for each defined symbol
+pub record Stored (p : System) (symbols rules : ℕ) (arities starts nodes marks : List ℕ) : Type 0 where
+  pub symbols-are : symbols ≡ length (p .arities)
+  pub rules-are : rules ≡ length (p .rules)
+  pub arities-are : take symbols arities ≡ p .arities
+  pub rules-at : (i : ℕ) → i < rules → Rule-at starts nodes i (rule p i)
+  pub marks-are : (f : ℕ) → f < 64 → getD marks f 0 ≡ cond (defined p f) 1 0
+  pub good : Good-pack p
+
+-- ONE NODE RECORD: 2, then 3
+unfoldable pub node-outcome : (symbols : ℕ) → Record → Outcome Node
+node-outcome n r =
+    cond (node-zeros r)
+    (cond (cond (eqb (r .kind) V-variable) (ltb (r .a) variable-count) (ltb (r .a) n)) (passed (node-of r)) (refused 3))
+    (refused 2)
+
+unfoldable pub coded : Outcome Node → Outcome ℕ
+coded (refused n) = refused n
+coded (passed x) = passed (code x)
+
+-- A RULE'S NODES: the row of the last one's kind, and the nodes
+pub record Run : Type 0 where
+  pub last : ℕ
+  pub nodes : List Node
+
+unfoldable pub more-run : Node → Run → Outcome Run
+more-run x y = passed (record { last = y .last; nodes = x ∷ y .nodes })
+
+unfoldable pub node-steps : (symbols before count : ℕ) → List Record → Outcome Run
+node-steps n k zero rs = passed (record { last = k; nodes = [] })
+node-steps n k (suc c) [] = refused 2
+node-steps n k (suc c) (r ∷ rs) =
+    cond (may-follow k (index (r .kind)) (suc c) false)
+    (after (node-outcome n r) (λ x. after (node-steps n (index (r .kind)) c rs) (λ y. more-run x y)))
+    (refused 2)
+
+-- what `read_nodes` answers and leaves: the nodes from `base` on, the bytes before them untouched
+unfoldable pub Nodes-read : Outcome Run → Answer → (base : ℕ) → (before now : List ℕ) → Type 0
+Nodes-read (refused n) x base o z = (outcome-of x ≡ refused n) × (length z ≡ length o) × (take base z ≡ take base o)
+Nodes-read (passed y) x base o z =
+    (outcome-of x ≡ passed (y .last)) × (length z ≡ length o) × (take base z ≡ take base o) × Kept z base (y .nodes)
+
+-- every variable among the nodes has a mark
+unfoldable pub all-seen : (marks : List Bool) → (nodes : List ℕ) → Bool
+all-seen sn [] = true
+all-seen sn (c ∷ cs) = (ltb c 64 || getD sn (c - 64) false) && all-seen sn cs
+
+-- the marks are those of the variables among the nodes
+unfoldable pub Seen-in : (nodes : List ℕ) → (marks : List Bool) → Type 0
+Seen-in cs sn = (v : ℕ) → v < 16 → getD sn v false ≡ member (64 + v) cs
+
+-- 4, 5, 6 of a rule in bytes
+unfoldable pub variables-in : (these those : List ℕ) → Bool
+variables-in [] ds = true
+variables-in (c ∷ cs) ds = (ltb c 64 || (ltb c 80 && member c ds)) && variables-in cs ds
+
+unfoldable pub rule-judged : (arities left right : List ℕ) → Outcome ℕ
+rule-judged ar ls rs =
+    cond (balanced ar 1 ls && balanced ar 1 rs)
+    (cond (ltb (getD ls 0 0) 64) (cond (variables-in rs ls) (passed 0) (refused 6)) (refused 5))
+    (refused 4)
+
+-- what `read_rule` answers and leaves: the nodes, then 4, 5, 6 in bytes
+unfoldable pub Rule-read : Outcome Run → (left : ℕ) → (arities : List ℕ) → Answer → (base : ℕ) → (before now : List ℕ) → Type 0
+Rule-read (refused n) l ar x base o z = (outcome-of x ≡ refused n) × (length z ≡ length o) × (take base z ≡ take base o)
+Rule-read (passed y) l ar x base o z =
+    (outcome-of x ≡ after (rule-judged ar (codes (take l (y .nodes))) (codes (drop l (y .nodes)))) (λ k. passed (y .last)))
+    × (length z ≡ length o) × (take base z ≡ take base o) × Kept z base (y .nodes)
+
+-- what `mark_defined` leaves: a mark of 1 for each byte below 64 that begins a left side
+unfoldable pub begins-left : (starts nodes : List ℕ) → (rules : ℕ) → (f : ℕ) → Bool
+begins-left ss ns zero f = false
+begins-left ss ns (suc i) f = eqb (getD ns (getD ss (2 * i) 0) 0) f || begins-left ss ns i f
+
+unfoldable pub Marked : (starts nodes : List ℕ) → (rules : ℕ) → (marks : List ℕ) → Type 0
+Marked ss ns n ms = (f : ℕ) → f < 64 → getD ms f 0 ≡ cond (begins-left ss ns n f) 1 0
+
+-- SYMBOLS: one S record, then all of them up to the first R or the end
+unfoldable pub arity-outcome : (i : ℕ) → Record → Outcome ℕ
+arity-outcome i r =
+    cond (eqb (r .one) 0 && (eqb (r .c) 0 && eqb (r .a) i))
+    (cond (ltb i most-symbols && leb (r .b) most-arity) (passed (r .b)) (refused 3))
+    (refused 2)
+
+unfoldable pub symbol-steps : (before i : ℕ) → List Record → Outcome (List ℕ)
+symbol-steps k i [] = passed []
+symbol-steps k i (r ∷ rs) =
+    cond (may-follow k (index (r .kind)) 0 false)
+    (cond (eqb (r .kind) S-symbol)
+    (after (arity-outcome i r) (λ n. after (symbol-steps (index (r .kind)) (suc i) rs) (λ ar. passed (n ∷ ar))))
+    (passed []))
+    (refused 2)
+
+unfoldable pub Symbols-read : Outcome (List ℕ) → Answer → (arities : List ℕ) → Type 0
+Symbols-read (refused n) x z = outcome-of x ≡ refused n
+Symbols-read (passed ar) x z = (outcome-of x ≡ passed (length ar)) × (take (length ar) z ≡ ar)
+
+-- RULES: the row of what stands before the first R, and all rules up to the end
+unfoldable pub row-after : (symbols : ℕ) → ℕ
+row-after zero = 0
+row-after (suc n) = 1
+
+unfoldable pub rule-header : (i : ℕ) → Record → Outcome ℕ
+rule-header i r =
+    cond (eqb (r .one) 0 && eqb (r .a) i)
+    (cond (ltb i most-rules && (side-count (r .b) && side-count (r .c))) (passed 0) (refused 3))
+    (refused 2)
+
+unfoldable pub Rules-read : Outcome System → (arities : List ℕ) → Answer → (starts nodes : List ℕ) → Type 0
+Rules-read (refused n) ar x ss ns = outcome-of x ≡ refused n
+Rules-read (passed p) ar x ss ns =
+    (outcome-of x ≡ passed (length (p .rules))) × (p .arities ≡ ar) × ((i : ℕ) → i < length (p .rules) → Rule-at ss ns i (rule p i))
+
+-- THE PACK
+unfoldable pub Pack-read : Outcome System → PackRead → (arities starts nodes marks : List ℕ) → Type 0
+Pack-read (refused n) x ar ss ns ms = (y : Refusal) × (x ≡ PackRefused y) × (number-of y ≡ n)
+Pack-read (passed p) x ar ss ns ms = (c : Counts) × (x ≡ Read c) × Stored p (c .symbols) (c .rules) ar ss ns ms

@@ -1,0 +1,57 @@
+// Reads a pack, refusals 1 to 6, into arrays that the caller lends.
+mod nodes;
+mod rules;
+pub mod sides;
+mod symbols;
+
+use records::Answer;
+use records::Refusal;
+ghost use Prim.Native.Nat.{_≤_};
+ghost use mathlib.Core.Path.{_≡_};
+ghost use lib.ListN.{length};
+ghost use Rattle.packs.specs.Reading.{read-pack};
+ghost use Rattle.pack_reader.specs.Stored.{Pack-read};
+
+// How many symbols and rules a pack has.
+pub struct Counts {
+    pub symbols: usize,
+    pub rules: usize,
+}
+
+// A pack's counts, or its refusal.
+pub enum PackRead {
+    Read(Counts),
+    Refused(Refusal),
+}
+
+// Reads a pack: its arities, where each side's nodes start, the nodes, and marks of the defined symbols.
+pub fn read_pack(
+    pack: &[u8],
+    arities: &mut [u8],
+    starts: &mut [u16],
+    nodes: &mut [u8],
+    marks: &mut [u8],
+) -> PackRead
+    requires { ⌜ (length (now arities) ≡ 64) × (length (now starts) ≡ 129) × (length (now nodes) ≡ 4096) × (length (now marks) ≡ 64) ⌝ }
+    ensures { λ r. ⌜ Pack-read (read-pack (now (pack .entry))) r (now (arities .exit)) (now (starts .exit)) (now (nodes .exit)) (now (marks .exit)) ⌝ }
+{
+    if 33792 < pack.len() {
+        return PackRead::Refused(Refusal::CutFile);
+    }
+    if pack.len() % 8 != 0 {
+        return PackRead::Refused(Refusal::CutFile);
+    }
+    match symbols::read_symbols(pack, arities) {
+        Answer::Refused(x) => PackRead::Refused(x),
+        Answer::Passed(s) => match rules::read_rules(pack, s, arities, starts, nodes) {
+            Answer::Refused(x) => PackRead::Refused(x),
+            Answer::Passed(n) => {
+                rules::mark_defined(starts, nodes, n, marks);
+                PackRead::Read(Counts {
+                    symbols: s,
+                    rules: n,
+                })
+            }
+        },
+    }
+}

@@ -1,0 +1,157 @@
+// The rules of a pack.
+use records::Answer;
+use records::Record;
+use records::Refusal;
+use records::Wanted;
+ghost use mathlib.Core.Path.{_≡_};
+ghost use mathlib.Core.List.{List, []};
+ghost use Prim.Native.Nat.{ℕ, _+_, _*_, _%_, _≤_, _<_};
+ghost use lib.ListN.{length, getD, drop, take, set, replicate};
+ghost use Rattle.records.specs.Answers.{outcome-of};
+ghost use Rattle.records.specs.Records.{all-records, record-at};
+ghost use Rattle.packs.specs.Reading.{pack-from, between-rules};
+ghost use Rattle.pack_reader.specs.Stored.{rule-header, node-steps, Rule-read, Rules-read, row-after, Marked};
+
+// R's fields: 2, then 3.
+fn header(r: Record, i: usize) -> Answer
+    ensures { λ x. ⌜ outcome-of x ≡ rule-header i r ⌝ }
+{
+    if r.one != 0 {
+        return Answer::Refused(Refusal::StrayRecord);
+    }
+    if r.a as usize != i {
+        return Answer::Refused(Refusal::StrayRecord);
+    }
+    if 64 <= i {
+        return Answer::Refused(Refusal::OutOfRange);
+    }
+    if r.b < 1 {
+        return Answer::Refused(Refusal::OutOfRange);
+    }
+    if 32 < r.b {
+        return Answer::Refused(Refusal::OutOfRange);
+    }
+    if r.c < 1 {
+        return Answer::Refused(Refusal::OutOfRange);
+    }
+    if 32 < r.c {
+        return Answer::Refused(Refusal::OutOfRange);
+    }
+    Answer::Passed(0)
+}
+
+// One rule's nodes and 4, 5, 6. Answers the row of the last node's kind.
+fn read_rule(
+    pack: &[u8],
+    from: usize,
+    b: usize,
+    c: usize,
+    symbols: usize,
+    arities: &[u8],
+    nodes: &mut [u8],
+    base: usize,
+) -> Answer
+    requires { ⌜ (length (now pack) % 8 ≡ 0) × (from ≤ 8192) × (symbols ≤ 64) × (length (now arities) ≡ 64) × (1 ≤ b) × (b ≤ 32) × (c ≤ 32) × (base + 64 ≤ length (now nodes)) × (length (now nodes) ≤ 65536) ⌝ }
+    ensures { λ x. ⌜ Rule-read (node-steps symbols 2 (b + c) (drop from (all-records (now (pack .entry))))) b (now (arities .entry)) x base (now (nodes .entry)) (now (nodes .exit)) ⌝ }
+{
+    match crate::nodes::read_nodes(pack, from, b + c, symbols, nodes, base) {
+        Answer::Refused(x) => Answer::Refused(x),
+        Answer::Passed(last) => match crate::sides::judge_rule(
+            arities,
+            nodes,
+            base,
+            base + b,
+            base + b + c,
+        ) {
+            Answer::Refused(x) => Answer::Refused(x),
+            Answer::Passed(_) => Answer::Passed(last),
+        },
+    }
+}
+
+// Keeps where rule i's right side begins and where it ends.
+fn keep_ends(starts: &mut [u16], i: usize, middle: usize, end: usize)
+    requires { ⌜ (2 * i + 2 < length (now starts)) × (middle < 65536) × (end < 65536) ⌝ }
+    ensures { λ _. ⌜ now (starts .exit) ≡ set (set (now (starts .entry)) (2 * i + 1) middle) (2 * i + 2) end ⌝ }
+{
+    starts[2 * i + 1] = middle as u16;
+    starts[2 * i + 2] = end as u16;
+}
+
+// Reads the rules, the first of them record `symbols`, to the end. Answers how many there are.
+pub fn read_rules(
+    pack: &[u8],
+    symbols: usize,
+    arities: &[u8],
+    starts: &mut [u16],
+    nodes: &mut [u8],
+) -> Answer
+    requires { ⌜ (length (now pack) % 8 ≡ 0) × (length (now pack) ≤ 33792) × (symbols ≤ 64) × (length (now arities) ≡ 64) × (length (now starts) ≡ 129) × (length (now nodes) ≡ 4096) ⌝ }
+    requires { ⌜ (8 * symbols + 8 ≤ length (now pack) → record-at (now pack) (8 * symbols) .kind ≡ 83 → ⊥) ⌝ }
+    ensures { λ x. ⌜ Rules-read (pack-from (drop symbols (all-records (now (pack .entry)))) (between-rules (row-after symbols) (take symbols (now (arities .entry))) [])) (take symbols (now (arities .entry))) x (now (starts .exit)) (now (nodes .exit)) ⌝ }
+{
+    let n = pack.len() / 8;
+    let mut last = 1;
+    if symbols == 0 {
+        last = 0;
+    }
+    let mut at = symbols;
+    let mut base = 0;
+    let mut i = 0;
+    starts[0] = 0;
+    while at < n {
+        let Wanted::Found(r) = records::read_wanted(pack, 8 * at, last, 0, false) else {
+            return Answer::Refused(Refusal::StrayRecord);
+        };
+        let b = r.b as usize;
+        let c = r.c as usize;
+        match header(r, i) {
+            Answer::Refused(x) => {
+                return Answer::Refused(x);
+            }
+            Answer::Passed(_) => {
+                match read_rule(pack, at + 1, b, c, symbols, arities, nodes, base) {
+                    Answer::Refused(x) => {
+                        return Answer::Refused(x);
+                    }
+                    Answer::Passed(row) => {
+                        let end = base + b + c;
+                        keep_ends(starts, i, base + b, end);
+                        at = at + 1 + b + c;
+                        base = end;
+                        i = i + 1;
+                        last = row;
+                    }
+                }
+            }
+        }
+    }
+    Answer::Passed(i)
+}
+
+fn clear(marks: &mut [u8])
+    ensures { λ _. ⌜ now (marks .exit) ≡ replicate (length (now (marks .entry))) 0 ⌝ }
+{
+    let mut f = 0;
+    while f < marks.len() {
+        marks[f] = 0;
+        f = f + 1;
+    }
+}
+
+// Marks the root of each left side.
+pub fn mark_defined(starts: &[u16], nodes: &[u8], rules: usize, marks: &mut [u8])
+    requires { ⌜ (rules ≤ 64) × (length (now starts) ≡ 129) × (length (now marks) ≡ 64) × ((i : ℕ) → i < rules → getD (now starts) (2 * i) 0 < length (now nodes)) ⌝ }
+    ensures { λ _. ⌜ Marked (now (starts .entry)) (now (nodes .entry)) rules (now (marks .exit)) ⌝ }
+{
+    clear(marks);
+    let mut i = 0;
+    while i < rules {
+        let at = starts[2 * i] as usize;
+        let c = nodes[at] as usize;
+        if c < 64 {
+            marks[c] = 1;
+        }
+        i = i + 1;
+    }
+}

@@ -1,0 +1,62 @@
+// The symbols of a pack.
+use records::Answer;
+use records::Record;
+use records::Refusal;
+use records::Wanted;
+ghost use mathlib.Core.Path.{_≡_};
+ghost use Prim.Native.Nat.{_%_, _≤_};
+ghost use lib.ListN.{length};
+ghost use Rattle.records.specs.Answers.{outcome-of};
+ghost use Rattle.records.specs.Records.{all-records};
+ghost use Rattle.pack_reader.specs.Stored.{arity-outcome, symbol-steps, Symbols-read};
+
+// The arity that symbol i's record gives: 2, then 3.
+fn arity_of(r: Record, i: usize) -> Answer
+    ensures { λ x. ⌜ outcome-of x ≡ arity-outcome i r ⌝ }
+{
+    if r.one != 0 {
+        return Answer::Refused(Refusal::StrayRecord);
+    }
+    if r.c != 0 {
+        return Answer::Refused(Refusal::StrayRecord);
+    }
+    if r.a as usize != i {
+        return Answer::Refused(Refusal::StrayRecord);
+    }
+    if 64 <= i {
+        return Answer::Refused(Refusal::OutOfRange);
+    }
+    if 8 < r.b {
+        return Answer::Refused(Refusal::OutOfRange);
+    }
+    Answer::Passed(r.b as usize)
+}
+
+// Reads the symbols, up to the first rule or the end. Answers how many there are.
+pub fn read_symbols(pack: &[u8], arities: &mut [u8]) -> Answer
+    requires { ⌜ (length (now pack) % 8 ≡ 0) × (length (now pack) ≤ 33792) × (length (now arities) ≡ 64) ⌝ }
+    ensures { λ x. ⌜ Symbols-read (symbol-steps 0 0 (all-records (now (pack .entry)))) x (now (arities .exit)) ⌝ }
+{
+    let n = pack.len() / 8;
+    let mut last = 0;
+    let mut i = 0;
+    while i < n {
+        let Wanted::Found(r) = records::read_wanted(pack, 8 * i, last, 0, false) else {
+            return Answer::Refused(Refusal::StrayRecord);
+        };
+        if r.kind != b'S' {
+            return Answer::Passed(i);
+        }
+        match arity_of(r, i) {
+            Answer::Refused(x) => {
+                return Answer::Refused(x);
+            }
+            Answer::Passed(b) => {
+                arities[i] = b as u8;
+                last = 1;
+                i = i + 1;
+            }
+        }
+    }
+    Answer::Passed(i)
+}

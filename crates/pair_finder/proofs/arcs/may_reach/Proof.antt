@@ -1,0 +1,96 @@
+-- `pairs::arcs::may_reach` meets its contract. The loop's invariant: whatever two lists were asked about, two lists are still
+-- to be compared, and the answer is theirs.
+use mathlib.Core.Path.{refl, sym, _∙_}
+use Prim.Native.Nat.{_-_}
+use native.Mathlib.Omega.{arith}
+use borrow.Author.Needs.{needs}
+use Rattle.terms.specs.Kept.{Term-at}
+use Rattle.pairs.specs.Arcs.{may-reach}
+use Rattle.pair_finder.specs.Walking.{Walkable}
+use Rattle.pair_finder.proofs.Kept.{term-within, term-passed}
+use Rattle.pair_finder.proofs.Walks.{To-walk, walk-ends, first-there, other-there, jumped, walk-stops, walk-enters}
+use Rattle.pair_finder.proofs.arcs.may_reach.Statement.{statement}
+use Rattle.pair_finder.proofs.arcs.may_reach.Tie as tie
+
+abbrev Inv-loop : tie.InvT-loop
+Inv-loop arities marks nodes u end v i₀ k₀ i k =
+    (w : Walkable arities marks nodes u end v) → To-walk (w .system) arities marks nodes end (may-reach (w .system) (w .first) (w .other)) i k
+
+abbrev μ-loop : tie.MeasureT-loop
+μ-loop arities marks nodes u end v i₀ k₀ i k = end - i
+
+holds : tie.Need-loop-holds Inv-loop μ-loop
+holds c = λ w. record { firsts = w .first; others = w .other; lists = w .lists; same = refl }
+
+-- in each turn a term is kept at each of the two places
+module _ (c : tie.In-loop Inv-loop μ-loop) where
+  first : Term-at (c .before .before .before .before .before .args .arities .now) (c .before .before .before .before .before .args .nodes .now) (c .before .loop .i)
+  first =
+      let l = c .before .loop in
+      first-there _ _ _ _ _ _ (l .i) (l .k) (l .inv (c .before .before .before .before .before .pre .3)) (c .loop-test .taken)
+
+  other : Term-at (c .before .before .before .before .before .args .arities .now) (c .before .before .before .before .before .args .nodes .now) (c .before .loop .k)
+  other =
+      let l = c .before .loop in
+      other-there _ _ _ _ _ _ (l .i) (l .k) (l .inv (c .before .before .before .before .before .pre .3)) (c .loop-test .taken)
+
+asked : tie.Need-skip-requires Inv-loop μ-loop
+asked c κs =
+    let turn = c .before .before .before .before in
+    let start = turn .before .before .before .before .before in
+    (start .pre .0, start .pre .2, first turn)
+
+asked-2 : tie.Need-skip-requires-2 Inv-loop μ-loop
+asked-2 c κs =
+    let turn = c .before .before .before .before .before in
+    let start = turn .before .before .before .before .before in
+    (start .pre .0, start .pre .2, other turn)
+
+later : tie.Need-loop-less Inv-loop μ-loop
+later c =
+    let turn = c .before .before .before .before .before .before in
+    omega (arith, turn .loop-test .taken, term-passed _ _ _ (first turn) (c .before .skip .result) (c .before .skip .ensures (first turn)))
+
+past-both : tie.Need-loop-again Inv-loop μ-loop
+past-both c w =
+    let turn = c .before .before .before .before .before .before in
+    let l = turn .before .loop in
+    jumped _ _ _ _ _ _ (l .i) (l .k) (l .inv w) (turn .loop-test .taken) (sym (c .before .before .before .jumps .ensures) ∙ c .before .before .if1 .taken) _ _
+    (c .before .skip .ensures) (c .skip2 .ensures)
+
+stops : tie.Need-returns Inv-loop μ-loop
+stops c w =
+    let turn = c .before .before .before .before .before in
+    let l = turn .before .loop in
+    sym
+    (walk-stops _ _ _ _ _ _ (l .i) (l .k) (l .inv w) (turn .loop-test .taken) (sym (c .before .before .jumps .ensures) ∙ c .before .if1 .left) (c .if2 .taken))
+
+enters : tie.Need-loop-again-2 Inv-loop μ-loop
+enters c w =
+    let turn = c .before .before .before .before .before in
+    let l = turn .before .loop in
+    walk-enters _ _ _ _ _ _ (l .i) (l .k) (l .inv w) (turn .loop-test .taken) (sym (c .before .before .jumps .ensures) ∙ c .before .if1 .left) (c .if2 .left)
+
+ends : tie.Need-returns-2 Inv-loop μ-loop
+ends c w = let l = c .before .loop in sym (walk-ends _ _ _ _ _ _ (l .i) (l .k) (l .inv w) (c .loop-test .left))
+
+pub may-reach-spec : {M : Type 1} → statement M
+may-reach-spec =
+    tie.close
+    (tie.spec
+    Inv-loop
+    μ-loop
+    holds
+    (λ c. term-within _ _ _ (first (c .before)))
+    (λ c. term-within _ _ _ (other (c .before .before)))
+    (λ c κs. search needs)
+    asked
+    asked-2
+    later
+    past-both
+    stops
+    (λ c. omega (arith, term-within _ _ _ (first (c .before .before .before .before .before))))
+    (λ c. omega (arith, term-within _ _ _ (other (c .before .before .before .before .before))))
+    (λ c. omega arith)
+    enters
+    ends)

@@ -1,0 +1,2 @@
+-- How the code goes through a pack that was read.
+pub mod Walking

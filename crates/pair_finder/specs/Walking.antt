@@ -1,0 +1,90 @@
+-- How the code lists pairs and walks two terms, over a pack as it is kept. The contracts between our own functions speak of
+-- it; no promise to a user does.
+use mathlib.Core.Path.{_≡_}
+use mathlib.Core.Bool.{Bool, true, false, _&&_, _||_, cond}
+use mathlib.Core.List.{List, [], _∷_, _++_, map}
+use Prim.Native.Nat.{ℕ, zero, suc, _+_, _*_, _-_, _≤_, _<_}
+use lib.Dec.{ltb, leb, eqb}
+use lib.ListN.{length, getD, take, drop}
+use Rattle.rewriting.specs.Terms.{Tree, System, rule, is-list, is-term, well, width}
+use Rattle.rewriting.specs.Pairs.{Pair, pair-left, pair-right, is-pair, defined}
+use Rattle.records.specs.declared.Answer.{Answer}
+use Rattle.records.specs.Outcomes.{Outcome, refused, passed}
+use Rattle.records.specs.Answers.{outcome-of}
+use Rattle.terms.specs.Sides.{flat}
+use Rattle.terms.specs.Kept.{Kept, part}
+use Rattle.pack_reader.specs.Stored.{Stored}
+use Rattle.pairs.specs.Listing.{a-pair, pairs, pairs-of, pair-bytes}
+use Rattle.pairs.specs.Arcs.{may-reach, arc}
+
+-- a node's byte applies a defined symbol
+unfoldable pub is-marked : (marks : List ℕ) → ℕ → Bool
+is-marked ms c = ltb c 64 && eqb (getD ms c 0) 1
+
+-- the places, counted from k, whose node applies a defined symbol
+unfoldable pub places : (marks : List ℕ) → (k : ℕ) → (nodes : List ℕ) → List ℕ
+places ms k [] = []
+places ms k (c ∷ cs) = cond (is-marked ms c) (k ∷ places ms (suc k) cs) (places ms (suc k) cs)
+
+-- the pairs of rule i
+unfoldable pub rule-pairs : (starts nodes marks : List ℕ) → (i : ℕ) → List Pair
+rule-pairs ss ns ms i = map (a-pair i) (places ms 0 (part ns (getD ss (2 * i + 1) 0) (getD ss (2 * i + 2) 0)))
+
+-- the pairs of the first n rules
+unfoldable pub first-pairs : (starts nodes marks : List ℕ) → (n : ℕ) → List Pair
+first-pairs ss ns ms zero = []
+first-pairs ss ns ms (suc n) = first-pairs ss ns ms n ++ rule-pairs ss ns ms n
+
+-- each rule's right side lies in order within the nodes, with at most 32 of them
+pub record Laid (starts nodes : List ℕ) (rules : ℕ) : Type 0 where
+  pub few : rules ≤ 64
+  pub starts-long : length starts ≡ 129
+  pub rises : (i : ℕ) → i < rules → getD starts (2 * i + 1) 0 ≤ getD starts (2 * i + 2) 0
+  pub short : (i : ℕ) → i < rules → getD starts (2 * i + 2) 0 ≤ getD starts (2 * i + 1) 0 + 32
+  pub within : (i : ℕ) → i < rules → getD starts (2 * i + 2) 0 ≤ length nodes
+
+-- two argument lists of one length kept at two places, the first up to `end`
+pub record Two-lists (p : System) (arities marks nodes : List ℕ) (u end v : ℕ) (ts us : Tree) : Type 0 where
+  pub arities-are : take (length (p .arities)) arities ≡ p .arities
+  pub arities-few : length (p .arities) ≤ 64
+  pub marks-are : (f : ℕ) → f < 64 → getD marks f 0 ≡ cond (defined p f) 1 0
+  pub list : is-list ts ≡ true
+  pub well-first : well p ts ≡ true
+  pub other-list : is-list us ≡ true
+  pub well-other : well p us ≡ true
+  pub as-many : width ts ≡ width us
+  pub first-kept : Kept nodes u (flat ts)
+  pub first-ends : end ≡ u + length (flat ts)
+  pub other-kept : Kept nodes v (flat us)
+
+-- some two lists are kept there
+pub record Walkable (arities marks nodes : List ℕ) (u end v : ℕ) : Type 0 where
+  pub system : System
+  pub first : Tree
+  pub other : Tree
+  pub lists : Two-lists system arities marks nodes u end v first other
+
+-- the walk skips a term on either side: one is a variable, or the first has a defined root
+unfoldable pub jumps : (marks : List ℕ) → (c d : ℕ) → Bool
+jumps ms c d = leb 64 d || (leb 64 c || is-marked ms c)
+
+-- a pair's right side is kept at `right`, and `other` is a rule
+pub record Arc-asked (arities starts nodes marks : List ℕ) (right other : ℕ) : Type 0 where
+  pub system : System
+  pub symbols : ℕ
+  pub rules : ℕ
+  pub stored : Stored system symbols rules arities starts nodes marks
+  pub pair : Pair
+  pub is : is-pair system pair ≡ true
+  pub at-right : right ≡ getD starts (2 * pair .at-rule + 1) 0 + pair .place
+  pub other-rule : other < rules
+
+-- what `place_of` answers: the place among the nodes of a pair's right side, or 7
+unfoldable pub Place-answer : System → (starts : List ℕ) → (at-rule place : ℕ) → Answer → Type 0
+Place-answer p ss i k x =
+    outcome-of x ≡ cond (is-pair p (a-pair i k)) (passed (getD ss (2 * i + 1) 0 + k)) (refused 7)
+
+-- what `write_in` answers and leaves: the records of `qs` from byte `at` on, all else untouched
+pub record Written (at : ℕ) (qs : List Pair) (r : ℕ) (before now : List ℕ) : Type 0 where
+  pub ends : r ≡ at + 8 * length qs
+  pub list-is : now ≡ take at before ++ (pair-bytes qs ++ drop (at + 8 * length qs) before)

@@ -1,0 +1,96 @@
+// Arcs between pairs of a pack that was read.
+use records::Answer;
+use records::Refusal;
+ghost use mathlib.Core.Path.{_≡_};
+ghost use mathlib.Core.List.{List};
+ghost use Prim.Native.Nat.{ℕ, _+_, _≤_};
+ghost use lib.ListN.{length};
+ghost use Rattle.rewriting.specs.Terms.{System};
+ghost use Rattle.pack_reader.specs.Stored.{Stored};
+ghost use Rattle.pairs.specs.Listing.{a-pair};
+ghost use Rattle.pairs.specs.Arcs.{may-reach, arc};
+ghost use Rattle.pair_finder.specs.Walking.{jumps, Walkable, Laid, Arc-asked, Place-answer};
+
+// The walk skips a term on either side.
+fn jumps(marks: &[u8], c: u8, d: u8) -> bool
+    requires { ⌜ length (now marks) ≡ 64 ⌝ }
+    ensures { λ r. ⌜ r ≡ jumps (now (marks .entry)) c d ⌝ }
+{
+    if 64 <= d {
+        return true;
+    }
+    if 64 <= c {
+        return true;
+    }
+    crate::listing::is_marked(marks, c)
+}
+
+// Each argument of the one list, kept from u to `end`, may reach the argument of the other, kept from v on.
+fn may_reach(arities: &[u8], marks: &[u8], nodes: &[u8], u: usize, end: usize, v: usize) -> bool
+    requires { ⌜ (length (now arities) ≡ 64) × (length (now marks) ≡ 64) × (length (now nodes) ≤ 65536) × Walkable (now arities) (now marks) (now nodes) u end v ⌝ }
+    ensures { λ r. ⌜ ((w : Walkable (now (arities .entry)) (now (marks .entry)) (now (nodes .entry)) u end v) → r ≡ may-reach (w .system) (w .first) (w .other)) ⌝ }
+{
+    let mut i = u;
+    let mut k = v;
+    while i < end {
+        let c = nodes[i];
+        let d = nodes[k];
+        if jumps(marks, c, d) {
+            i = terms::skip(arities, nodes, i);
+            k = terms::skip(arities, nodes, k);
+        } else {
+            if c != d {
+                return false;
+            }
+            i = i + 1;
+            k = k + 1;
+        }
+    }
+    true
+}
+
+// An arc runs from the pair whose right side is kept at `right` to the pairs of rule `other`.
+pub fn arc_from(
+    arities: &[u8],
+    starts: &[u16],
+    nodes: &[u8],
+    marks: &[u8],
+    right: usize,
+    other: usize,
+) -> bool
+    requires { ⌜ (length (now arities) ≡ 64) × (length (now starts) ≡ 129) × (length (now marks) ≡ 64) × (length (now nodes) ≤ 65536) × Arc-asked (now arities) (now starts) (now nodes) (now marks) right other ⌝ }
+    ensures { λ r. ⌜ ((a : Arc-asked (now (arities .entry)) (now (starts .entry)) (now (nodes .entry)) (now (marks .entry)) right other) → r ≡ arc (a .system) (a .pair) (a-pair other 0)) ⌝ }
+{
+    let left = starts[2 * other] as usize;
+    if nodes[right] != nodes[left] {
+        return false;
+    }
+    let end = terms::skip(arities, nodes, right);
+    may_reach(arities, marks, nodes, right + 1, end, left + 1)
+}
+
+// Where among the nodes the right side of a pair is kept, or 7.
+pub fn place_of(
+    starts: &[u16],
+    nodes: &[u8],
+    marks: &[u8],
+    rules: usize,
+    rule: usize,
+    place: usize,
+) -> Answer
+    requires { ⌜ Laid (now starts) (now nodes) rules × (length (now marks) ≡ 64) ⌝ }
+    ensures { λ r. ⌜ ((p : System) (symbols : ℕ) (arities : List ℕ) → Stored p symbols rules arities (now (starts .entry)) (now (nodes .entry)) (now (marks .entry)) → Place-answer p (now (starts .entry)) rule place r) ⌝ }
+{
+    if rules <= rule {
+        return Answer::Refused(Refusal::NoSuchPair);
+    }
+    let from = starts[2 * rule + 1] as usize;
+    let to = starts[2 * rule + 2] as usize;
+    if to - from <= place {
+        return Answer::Refused(Refusal::NoSuchPair);
+    }
+    if crate::listing::is_marked(marks, nodes[from + place]) {
+        return Answer::Passed(from + place);
+    }
+    Answer::Refused(Refusal::NoSuchPair)
+}

@@ -1,0 +1,118 @@
+// The pairs of a pack that was read, and their records.
+ghost use mathlib.Core.Path.{_≡_};
+ghost use mathlib.Core.List.{_++_, map};
+ghost use Prim.Native.Nat.{_+_, _*_, _≤_, _<_};
+ghost use lib.ListN.{length, take, drop};
+ghost use Rattle.terms.specs.Kept.{part};
+ghost use Rattle.pairs.specs.Listing.{a-pair, pair-record, pair-bytes};
+ghost use Rattle.records.specs.Records.{record-bytes};
+ghost use Rattle.pair_finder.specs.Walking.{is-marked, places, rule-pairs, first-pairs, Laid, Written};
+
+// The node applies a defined symbol.
+pub fn is_marked(marks: &[u8], code: u8) -> bool
+    requires { ⌜ length (now marks) ≡ 64 ⌝ }
+    ensures { λ r. ⌜ r ≡ is-marked (now (marks .entry)) code ⌝ }
+{
+    let c = code as usize;
+    if c < 64 {
+        return marks[c] == 1;
+    }
+    false
+}
+
+// How many nodes of a side apply a defined symbol.
+fn count_in(nodes: &[u8], marks: &[u8], from: usize, to: usize) -> usize
+    requires { ⌜ (from ≤ to) × (to ≤ length (now nodes)) × (length (now marks) ≡ 64) ⌝ }
+    ensures { λ r. ⌜ r ≡ length (places (now (marks .entry)) 0 (part (now (nodes .entry)) from to)) ⌝ }
+{
+    let mut n = 0;
+    let mut i = from;
+    while i < to {
+        if is_marked(marks, nodes[i]) {
+            n = n + 1;
+        }
+        i = i + 1;
+    }
+    n
+}
+
+// How many pairs there are.
+pub fn count_pairs(starts: &[u16], nodes: &[u8], marks: &[u8], rules: usize) -> usize
+    requires { ⌜ Laid (now starts) (now nodes) rules × (length (now marks) ≡ 64) ⌝ }
+    ensures { λ r. ⌜ r ≡ length (first-pairs (now (starts .entry)) (now (nodes .entry)) (now (marks .entry)) rules) ⌝ }
+{
+    let mut n = 0;
+    let mut i = 0;
+    while i < rules {
+        n = n
+            + count_in(
+                nodes,
+                marks,
+                starts[2 * i + 1] as usize,
+                starts[2 * i + 2] as usize,
+            );
+        i = i + 1;
+    }
+    n
+}
+
+// Writes a pair's record at byte `at`.
+fn write_record(list: &mut [u8], at: usize, rule: usize, place: usize)
+    requires { ⌜ (at + 8 ≤ length (now list)) × (rule < 65536) × (place < 65536) ⌝ }
+    ensures { λ _. ⌜ now (list .exit) ≡ take at (now (list .entry)) ++ (record-bytes (pair-record (a-pair rule place)) ++ drop (at + 8) (now (list .entry))) ⌝ }
+{
+    list[at] = b'P';
+    list[at + 1] = 0;
+    list[at + 2] = (rule % 256) as u8;
+    list[at + 3] = (rule / 256 % 256) as u8;
+    list[at + 4] = (place % 256) as u8;
+    list[at + 5] = (place / 256 % 256) as u8;
+    list[at + 6] = 0;
+    list[at + 7] = 0;
+}
+
+// Writes the records of rule `rule`'s pairs from byte `at` on. Answers the byte after them.
+fn write_in(
+    list: &mut [u8],
+    at: usize,
+    rule: usize,
+    nodes: &[u8],
+    marks: &[u8],
+    from: usize,
+    to: usize,
+) -> usize
+    requires { ⌜ (rule < 64) × (from ≤ to) × (to ≤ from + 32) × (to ≤ length (now nodes)) × (length (now marks) ≡ 64) × (at + 8 * length (places (now marks) 0 (part (now nodes) from to)) ≤ length (now list)) ⌝ }
+    ensures { λ r. ⌜ Written at (map (a-pair rule) (places (now (marks .entry)) 0 (part (now (nodes .entry)) from to))) r (now (list .entry)) (now (list .exit)) ⌝ }
+{
+    let mut next = at;
+    let mut i = from;
+    while i < to {
+        if is_marked(marks, nodes[i]) {
+            write_record(list, next, rule, i - from);
+            next = next + 8;
+        }
+        i = i + 1;
+    }
+    next
+}
+
+// Writes all records.
+pub fn write_pairs(list: &mut [u8], starts: &[u16], nodes: &[u8], marks: &[u8], rules: usize)
+    requires { ⌜ Laid (now starts) (now nodes) rules × (length (now marks) ≡ 64) × (8 * length (first-pairs (now starts) (now nodes) (now marks) rules) ≤ length (now list)) ⌝ }
+    ensures { λ _. ⌜ now (list .exit) ≡ pair-bytes (first-pairs (now (starts .entry)) (now (nodes .entry)) (now (marks .entry)) rules) ++ drop (8 * length (first-pairs (now (starts .entry)) (now (nodes .entry)) (now (marks .entry)) rules)) (now (list .entry)) ⌝ }
+{
+    let mut at = 0;
+    let mut i = 0;
+    while i < rules {
+        at = write_in(
+            list,
+            at,
+            i,
+            nodes,
+            marks,
+            starts[2 * i + 1] as usize,
+            starts[2 * i + 2] as usize,
+        );
+        i = i + 1;
+    }
+}

@@ -1,0 +1,81 @@
+-- Judging rules and pairs by a list of linear interpretations: 11, 12 and 13.
+use mathlib.Core.Path.{_≡_}
+use mathlib.Core.Bool.{Bool, true, false, _||_, not, cond}
+use mathlib.Core.List.{List, [], _∷_}
+use Prim.Native.Nat.{ℕ, _≤_, _<_}
+use lib.ListN.{length, getD}
+use Rattle.rewriting.specs.Terms.{Tree, nil, Rule, no-rule}
+use Rattle.polynomials.specs.Polynomials.{Weight, Weighting, polynomial-of, marked-polynomial, at-least, greater}
+use Rattle.polynomials.specs.Values.{Valuation, value, marked-value}
+use Rattle.polynomials.specs.Limit.{over, marked-over, Nodes-within, Side-within}
+
+-- the two sides that a pair names
+pub record Call : Type 0 where
+  pub left : Tree
+  pub right : Tree
+
+unfoldable pub any : {A : Type 0} → (A → Bool) → List A → Bool
+any test [] = false
+any test (x ∷ xs) = test x || any test xs
+
+unfoldable pub without : {A : Type 0} → (A → Bool) → List A → List A
+without test [] = []
+without test (x ∷ xs) = cond (test x) (without test xs) (x ∷ without test xs)
+
+unfoldable pub is-none : {A : Type 0} → List A → Bool
+is-none [] = true
+is-none (x ∷ xs) = false
+
+unfoldable pub rule-over : Weighting → Rule → Bool
+rule-over w r = over (w .weights) (r .left) || over (w .weights) (r .right)
+
+-- its left is not at least its right
+unfoldable pub rule-rises : Weighting → Rule → Bool
+rule-rises w r = not (at-least (polynomial-of (w .weights) (r .left)) (polynomial-of (w .weights) (r .right)))
+
+unfoldable pub call-over : Weighting → Call → Bool
+call-over w c = marked-over w (c .left) || marked-over w (c .right)
+
+unfoldable pub call-rises : Weighting → Call → Bool
+call-rises w c = not (at-least (marked-polynomial w (c .left)) (marked-polynomial w (c .right)))
+
+-- its left is greater than its right
+unfoldable pub call-falls : Weighting → Call → Bool
+call-falls w c = greater (marked-polynomial w (c .left)) (marked-polynomial w (c .right))
+
+-- Weighting by weighting, 11, 12, then 13; the calls that fall leave, and 13 if one remains after the last. With one
+-- weighting, as the base has it, 13 is given exactly if some call does not fall.
+unfoldable pub weightings-refusal : (rules : List Rule) → List Weighting → (present : List Call) → ℕ
+weightings-refusal rs [] cs = cond (is-none cs) 0 13
+weightings-refusal rs (w ∷ ws) cs =
+    cond (any (rule-over w) rs || any (call-over w) cs) 11
+    (cond (any (rule-rises w) rs) 12
+    (cond (any (call-rises w) cs) 13 (weightings-refusal rs ws (without (call-falls w) cs))))
+
+-- the same without numbers: every call leaves under one of the weightings
+pub data Weighed (rs : List Rule) : List Weighting → List Call → Type 0 where
+  all-left : Weighed rs [] []
+  one-more :
+      (w : Weighting) (ws : List Weighting) (cs : List Call) → any (rule-over w) rs ≡ false → any (call-over w) cs ≡ false →
+      any (rule-rises w) rs ≡ false → any (call-rises w) cs ≡ false → Weighed rs ws (without (call-falls w) cs) → Weighed rs (w ∷ ws) cs
+
+-- WHAT IT MEANS for one weighting, in values over all naturals; `rs` and `cs` by their places
+abbrev pub no-call : Call
+no-call = record { left = nil; right = nil }
+
+-- 11 is not given: every node of all rules and of the calls is within the limit
+pub record All-within (rs : List Rule) (w : Weighting) (cs : List Call) : Type 0 where
+  pub rule-lefts : (i : ℕ) → i < length rs → Nodes-within (w .weights) (getD rs i no-rule .left)
+  pub rule-rights : (i : ℕ) → i < length rs → Nodes-within (w .weights) (getD rs i no-rule .right)
+  pub call-lefts : (k : ℕ) → k < length cs → Side-within w (getD cs k no-call .left)
+  pub call-rights : (k : ℕ) → k < length cs → Side-within w (getD cs k no-call .right)
+
+-- 12 is not given: every rule's left is at least its right
+unfoldable pub Rules-kept : List Rule → Weighting → Type 0
+Rules-kept rs w =
+    (i : ℕ) → i < length rs → (a : Valuation) → value (w .weights) a (getD rs i no-rule .right) ≤ value (w .weights) a (getD rs i no-rule .left)
+
+-- 13 is not given: every call's left is greater than its right
+unfoldable pub Calls-fall : Weighting → List Call → Type 0
+Calls-fall w cs =
+    (k : ℕ) → k < length cs → (a : Valuation) → marked-value w a (getD cs k no-call .right) < marked-value w a (getD cs k no-call .left)
