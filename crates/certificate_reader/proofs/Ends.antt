@@ -1,6 +1,6 @@
 -- Where the reader's loop ends: at a record refused, or at the end of the file.
 use mathlib.Core.Path.{_≡_, refl, sym, ap, _∙_}
-use mathlib.Core.Bool.{Bool, true, false}
+use mathlib.Core.Bool.{true, false}
 use mathlib.Core.List.{List}
 use Prim.Native.Nat.{ℕ, _*_, _/_, _%_, _≤_, _<_}
 use native.Mathlib.Omega.{arith}
@@ -8,6 +8,7 @@ use lib.ListN.{length, drop-of-length-le}
 use borrow.Author.Tests.{le-ltb, eq-eqb}
 use Rattle.rewriting.specs.Terms.{System}
 use Rattle.records.specs.declared.Record.{Record}
+use Rattle.records.specs.declared.Answer.the-variants.{Passed, Refused}
 use Rattle.records.specs.declared.Refusal.{Refusal}
 use Rattle.records.specs.declared.Refusal.the-variants.{StrayRecord}
 use Rattle.records.specs.Outcomes.{refused, passed}
@@ -16,7 +17,6 @@ use Rattle.records.specs.Order.{certificate-edge, index, may-follow}
 use Rattle.records.specs.Answers.{number-of}
 use Rattle.records.proofs.Bytes.{length-of-records, drop-records}
 use Rattle.certificate_reader.specs.declared.State.{State}
-use Rattle.certificate_reader.specs.declared.CertificateRead.the-variants.{Read, Refused as NotRead}
 use Rattle.certificates.specs.Reading.{Reading, most-bytes, components-of, cert-step, cert-end, cert-from, read-certificate}
 use Rattle.certificate_reader.specs.Working.{Certificate-read}
 use Rattle.certificates.proofs.OneRecord.{nothing-read}
@@ -28,21 +28,21 @@ module _ (p : System) (ds : List ℕ) (whole : length ds % 8 ≡ 0) (few : lengt
   unfolding read-certificate length-bad
   not-cut = rw (le-ltb most-bytes (length ds) few, eq-eqb (length ds % 8) 0 whole)
 
-  pub ends-refused : (os : List ℕ) (y : Refusal) → cert-from p (all-records ds) nothing-read ≡ refused (number-of y) → Certificate-read (read-certificate p ds) (NotRead y) os
+  pub ends-refused : (y : Refusal) → cert-from p (all-records ds) nothing-read ≡ refused (number-of y) → Certificate-read (read-certificate p ds) (Refused y)
   unfolding Certificate-read
-  ends-refused os y e = rw (not-cut, e) (y, refl, refl)
+  ends-refused y e = rw (not-cut, e)
 
-  module _ (i : ℕ) (s : State) (twice : Bool) (os : List ℕ) (told : Told p (all-records ds) i s twice os) where
+  module _ (i : ℕ) (s : State) (told : Told p (all-records ds) i s) where
     abbrev x : Reading
     x = told .reading
 
     -- a record that may not stand there
     pub ends-stray : i < length ds / 8 → may-follow (s .last) (index (record-at ds (8 * i) .kind)) (s .due) (s .weighted) ≡ false →
-        Certificate-read (read-certificate p ds) (NotRead StrayRecord) os
+        Certificate-read (read-certificate p ds) (Refused StrayRecord)
     unfolding cert-from cert-step
     ends-stray h e =
         let r = record-at ds (8 * i) in
-        ends-refused os StrayRecord
+        ends-refused StrayRecord
         (sym (told .rest)
         ∙ ap (λ (l : List Record). cert-from p l x) (drop-records ds i h)
         ∙ rw (may-follow-mirrored s x (told .mirrors) (index (r .kind)) ∙ e))
@@ -53,13 +53,13 @@ module _ (p : System) (ds : List ℕ) (whole : length ds % 8 ≡ 0) (few : lengt
       unfolding cert-from
       at-end = sym (told .rest) ∙ ap (λ (l : List Record). cert-from p l x) (drop-of-length-le (all-records ds) {i = i} (omega (arith, length-of-records ds)))
 
-      pub ends-early : may-follow (s .last) certificate-edge (s .due) (s .weighted) ≡ false → Certificate-read (read-certificate p ds) (NotRead StrayRecord) os
+      pub ends-early : may-follow (s .last) certificate-edge (s .due) (s .weighted) ≡ false → Certificate-read (read-certificate p ds) (Refused StrayRecord)
       unfolding cert-end
-      ends-early e = ends-refused os StrayRecord (at-end ∙ rw (may-follow-mirrored s x (told .mirrors) certificate-edge ∙ e))
+      ends-early e = ends-refused StrayRecord (at-end ∙ rw (may-follow-mirrored s x (told .mirrors) certificate-edge ∙ e))
 
       pub ends-read : may-follow (s .last) certificate-edge (s .due) (s .weighted) ≡ true →
-          Certificate-read (read-certificate p ds) (Read (record { components = s .number; twice = twice })) os
+          Certificate-read (read-certificate p ds) (Passed (s .number))
       unfolding cert-end Certificate-read
       ends-read e =
           let passes : cert-end x ≡ passed (components-of x) = rw (may-follow-mirrored s x (told .mirrors) certificate-edge ∙ e) in
-          rw (not-cut, at-end, passes) (record { components = s .number; twice = twice }, refl, told .mirrors .number-is, told .twice-is, told .owned)
+          rw (not-cut, at-end, passes) (ap passed (told .mirrors .number-is))

@@ -1,7 +1,6 @@
--- What the code asks of the arrays is what is asked of the pack that was read: a symbol's places and its mark. And a pair
--- has its own slot.
+-- What the code asks of the arrays is what is asked of the pack that was read: a symbol's places and its mark.
 use mathlib.Core.Path.{_≡_, sym, ap, _∙_}
-use mathlib.Core.Bool.{true, _&&_}
+use mathlib.Core.Bool.{_&&_}
 use mathlib.Core.List.{List}
 use Prim.Native.Nat.{ℕ, _<_}
 use native.Mathlib.Omega.{arith}
@@ -9,12 +8,10 @@ use lib.Dec.{ltb, leb}
 use lib.ListN.{length, getD}
 use lib.Seq.{getD-take}
 use borrow.Author.Tests.{ltb-true}
-use Rattle.rewriting.specs.Terms.{System, rule}
-use Rattle.rewriting.specs.Pairs.{subterms, is-pair, defined}
-use Rattle.rewriting.proofs.Basics.{by-test, and-left, and-right}
-use Rattle.terms.proofs.Parsing.{length-flat}
+use Rattle.rewriting.specs.Terms.{System}
+use Rattle.rewriting.specs.Pairs.{defined}
+use Rattle.rewriting.proofs.Basics.{by-test}
 use Rattle.pack_reader.specs.Stored.{Stored}
-use Rattle.pairs.specs.Listing.{a-pair}
 use Rattle.pair_finder.specs.Walking.{is-marked}
 use Rattle.pair_finder.proofs.Subterms.{symbol-marked}
 use Rattle.certificates.specs.Reading.{is-place}
@@ -37,12 +34,3 @@ module _ (p : System) (symbols rules : ℕ) (ar ss ns ms : List ℕ) (s : Stored
       let few = ltb-true f symbols h in
       rw (place-stored f i, symbol-marked p ms (s .marks-are) (s .good .symbols) f (omega (arith, s .symbols-are, s .good .symbols))))
       (λ h. rw (place-stored f i, h))
-
-  -- there are at most 64 rules with right sides of at most 32 nodes
-  pub pair-slot : (i k : ℕ) → is-pair p (a-pair i k) ≡ true → (i < 64) × (k < 32)
-  unfolding is-pair
-  pair-slot i k h =
-      let inside = and-left _ _ h in
-      let i-small = ltb-true i (length (p .rules)) (and-left _ _ inside) in
-      let k-small = ltb-true k (length (subterms (rule p i .right))) (and-right (ltb i (length (p .rules))) _ inside) in
-      (omega (arith, s .good .rule-count), omega (arith, s .good .rights i i-small, length-flat (rule p i .right)))

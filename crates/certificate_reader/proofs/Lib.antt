@@ -2,9 +2,8 @@
 pub mod Keys
 pub mod FromStore
 pub mod Mirrored
--- what the table tells it; which component names a pair
+-- what the table tells it
 pub mod Standing
-pub mod Owners
 -- its loop: one turn, and the end
 pub mod Turns
 pub mod Ends

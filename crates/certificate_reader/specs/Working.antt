@@ -1,5 +1,5 @@
--- How the code reads a certificate: a state of a few numbers, and for each pair the component that names it. The contracts
--- between our own functions speak of it; no promise to a user does.
+-- How the code reads a certificate: a state of a few numbers. The contracts between our own functions speak of it; no promise
+-- to a user does.
 use mathlib.Core.Path.{_≡_}
 use mathlib.Core.Bool.{Bool, true, false, _&&_, _||_, not, cond}
 use mathlib.Core.List.{List, [], _∷_, _++_}
@@ -7,21 +7,17 @@ use mathlib.Core.Option.{Option, none, some}
 use Prim.Native.Nat.{ℕ, zero, suc, _+_, _*_, _-_, _≤_, _<_}
 use lib.Dec.{ltb, leb, eqb}
 use lib.ListN.{length, getD, set}
-use Rattle.rewriting.specs.Terms.{System}
-use Rattle.rewriting.specs.Pairs.{Pair, is-pair}
+use Rattle.rewriting.specs.Pairs.{Pair}
 use Rattle.records.specs.declared.Record.{Record}
+use Rattle.records.specs.declared.Answer.{Answer}
 use Rattle.records.specs.declared.Refusal.{Refusal}
 use Rattle.records.specs.Outcomes.{Outcome, refused, passed}
-use Rattle.records.specs.Answers.{number-of}
+use Rattle.records.specs.Answers.{number-of, outcome-of}
 use Rattle.records.specs.Rising.{last-below}
-use Rattle.pairs.specs.Listing.{a-pair, count-pair}
 use Rattle.polynomials.specs.Polynomials.{Weight, Weighting}
 use Rattle.certificate_reader.specs.declared.State.{State}
 use Rattle.certificate_reader.specs.declared.Stepped.{Stepped}
 use Rattle.certificate_reader.specs.declared.Stepped.the-variants.{On, Refused as Stopped}
-use Rattle.certificate_reader.specs.declared.CertificateRead.{CertificateRead}
-use Rattle.certificate_reader.specs.declared.CertificateRead.the-variants.{Read, Refused as NotRead}
-use Rattle.certificate_reader.specs.declared.Found.{Found}
 use Rattle.certificates.specs.Components.{Component, last-weighting}
 use Rattle.certificates.specs.Reading.{Reading, components-of, has-weighting}
 
@@ -69,31 +65,7 @@ Steps-as (passed x) r = (s : State) × (r ≡ On s) × Mirrors s x
 unfoldable pub Goes-on : State → Stepped → Type 0
 Goes-on s r = (u : State) → r ≡ On u → Sound-state u × (u .number ≤ s .number + 1)
 
--- the number, from i + 1 on, of the first component that names a pair; 0 if none does
-unfoldable pub first-in : Pair → (i : ℕ) → List Component → ℕ
-first-in q i [] = 0
-first-in q i (c ∷ cs) = cond (ltb 0 (count-pair q (c .pairs))) (suc i) (first-in q (suc i) cs)
-
-unfoldable pub pairs-in : List Component → List Pair
-pairs-in [] = []
-pairs-in (c ∷ cs) = c .pairs ++ pairs-in cs
-
--- some pair stands twice
-unfoldable pub doubled : List Pair → Bool
-doubled [] = false
-doubled (q ∷ qs) = ltb 0 (count-pair q qs) || doubled qs
-
--- each pair's slot holds its first component's number plus one
-unfoldable pub Owned : List Component → (owners : List ℕ) → Type 0
-Owned cs os = (i k : ℕ) → i < 64 → k < 32 → getD os (32 * i + k) 0 ≡ first-in (a-pair i k) 0 cs
-
--- what `note` answers and leaves
-pub record Noted (slot number : ℕ) (r : Bool) (before now : List ℕ) : Type 0 where
-  pub says : r ≡ ltb 0 (getD before slot 0)
-  pub leaves : now ≡ cond r before (set before slot number)
-
--- what `read_certificate` answers and leaves
-unfoldable pub Certificate-read : Outcome (List Component) → CertificateRead → (owners : List ℕ) → Type 0
-Certificate-read (refused n) r os = (y : Refusal) × (r ≡ NotRead y) × (number-of y ≡ n)
-Certificate-read (passed cs) r os =
-    (f : Found) × (r ≡ Read f) × (f .components ≡ length cs) × (f .twice ≡ doubled (pairs-in cs)) × Owned cs os
+-- what `read_certificate` answers: the refusal, or how many components there are
+unfoldable pub Certificate-read : Outcome (List Component) → Answer → Type 0
+Certificate-read (refused n) r = outcome-of r ≡ refused n
+Certificate-read (passed cs) r = outcome-of r ≡ passed (length cs)

@@ -1,16 +1,17 @@
-// Reads a certificate: refusals 2, 3 and 7, and which component names each pair.
+// Reads a certificate: refusals 2, 3 and 7, and how many components there are.
 mod steps;
 
+use records::Answer;
 use records::Refusal;
 use records::Wanted;
 ghost use mathlib.Core.Path.{_≡_};
 ghost use Prim.Native.Nat.{_%_, _≤_, _<_};
-ghost use lib.ListN.{length, replicate};
+ghost use lib.ListN.{length};
 ghost use Rattle.rewriting.specs.Terms.{System};
 ghost use Rattle.pack_reader.specs.Stored.{Stored};
 ghost use Rattle.pair_finder.specs.Walking.{Laid};
 ghost use Rattle.certificates.specs.Reading.{read-certificate};
-ghost use Rattle.certificate_reader.specs.Working.{Noted, Certificate-read};
+ghost use Rattle.certificate_reader.specs.Working.{Certificate-read};
 
 // What has been read: the last record's row of the table, the components begun, the pairs still due of the last one,
 // whether it has a weighting, and the keys of its last P, W and M records (0 for none).
@@ -30,34 +31,7 @@ pub enum Stepped {
     Refused(Refusal),
 }
 
-// How many components there are, and whether some pair stands twice.
-pub struct Found {
-    pub components: usize,
-    pub twice: bool,
-}
-
-pub enum CertificateRead {
-    Read(Found),
-    Refused(Refusal),
-}
-
-// Notes the component that names the pair at `slot`. Says whether one did before.
-fn note(owners: &mut [u16], slot: usize, number: usize) -> bool
-    requires { ⌜ number < 65536 ⌝ }
-    ensures length { λ _. ⌜ length (now (owners .exit)) ≡ length (now (owners .entry)) ⌝ }
-    ensures noted { λ r. ⌜ (slot < length (now (owners .entry)) → Noted slot number r (now (owners .entry)) (now (owners .exit))) ⌝ }
-{
-    if owners.len() <= slot {
-        return false;
-    }
-    if 0 < owners[slot] {
-        return true;
-    }
-    owners[slot] = number as u16;
-    false
-}
-
-// Reads the certificate of a pack that was read.
+// Reads the certificate of a pack that was read. Answers how many components there are.
 pub fn read_certificate(
     certificate: &[u8],
     symbols: usize,
@@ -66,10 +40,9 @@ pub fn read_certificate(
     starts: &[u16],
     nodes: &[u8],
     marks: &[u8],
-    owners: &mut [u16],
-) -> CertificateRead
-    requires { ⌜ (length (now certificate) % 8 ≡ 0) × (length (now certificate) ≤ 24576) × (symbols ≤ 64) × (length (now arities) ≡ 64) × Laid (now starts) (now nodes) rules × (length (now marks) ≡ 64) × (now owners ≡ replicate 2048 0) ⌝ }
-    ensures { λ r. ⌜ ((p : System) → Stored p symbols rules (now (arities .entry)) (now (starts .entry)) (now (nodes .entry)) (now (marks .entry)) → Certificate-read (read-certificate p (now (certificate .entry))) r (now (owners .exit))) ⌝ }
+) -> Answer
+    requires { ⌜ (length (now certificate) % 8 ≡ 0) × (length (now certificate) ≤ 24576) × (symbols ≤ 64) × (length (now arities) ≡ 64) × Laid (now starts) (now nodes) rules × (length (now marks) ≡ 64) ⌝ }
+    ensures { λ r. ⌜ ((p : System) → Stored p symbols rules (now (arities .entry)) (now (starts .entry)) (now (nodes .entry)) (now (marks .entry)) → Certificate-read (read-certificate p (now (certificate .entry))) r) ⌝ }
 {
     let n = certificate.len() / 8;
     let mut s = State {
@@ -81,33 +54,24 @@ pub fn read_certificate(
         weight_key: 0,
         marked_key: 0,
     };
-    let mut twice = false;
     let mut i = 0;
     while i < n {
         let Wanted::Found(r) = records::read_wanted(certificate, 8 * i, s.last, s.due, s.weighted)
         else {
-            return CertificateRead::Refused(Refusal::StrayRecord);
+            return Answer::Refused(Refusal::StrayRecord);
         };
         match steps::step(r, s, symbols, rules, arities, starts, nodes, marks) {
             Stepped::Refused(x) => {
-                return CertificateRead::Refused(x);
+                return Answer::Refused(x);
             }
             Stepped::On(t) => {
-                if r.kind == b'P' {
-                    if note(owners, 32 * (r.a as usize) + r.b as usize, t.number) {
-                        twice = true;
-                    }
-                }
                 s = t;
                 i = i + 1;
             }
         }
     }
     if records::order::may_follow(s.last, 5, s.due, s.weighted) {
-        return CertificateRead::Read(Found {
-            components: s.number,
-            twice,
-        });
+        return Answer::Passed(s.number);
     }
-    CertificateRead::Refused(Refusal::StrayRecord)
+    Answer::Refused(Refusal::StrayRecord)
 }

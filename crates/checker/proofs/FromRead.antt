@@ -1,4 +1,4 @@
--- What a certificate that was read brings to the judging: small numbers, pairs that are pairs, components that can be weighed.
+-- What a certificate that was read brings to the judging: components that can be weighed.
 use mathlib.Core.Path.{_≡_, refl, sym, ap, subst, _∙_}
 use mathlib.Core.Bool.{Bool, true, false, _&&_}
 use mathlib.Core.List.{List, [], _∷_, List·Memᴰ, List·Memᴰ·head, List·Memᴰ·tail}
@@ -25,36 +25,11 @@ use Rattle.certificates.proofs.Shapes.{Shaped, Weighting-shaped, Weights-rise, 
 use Rattle.certificates.proofs.Encoding.{components-few}
 use Rattle.certificates.proofs.OnlyEncodings.{certificate-shaped, certificate-read, length-within}
 use Rattle.judging.specs.Shown.{nth}
-use Rattle.checker.specs.Working.{All-pairs, Fillable, Component-fits, Components-from, Judgeable}
-
-each-member : {A : Type 0} {P : A → Type 0} {x : A} {xs : List A} → Each P xs → List·Memᴰ x xs → P x
-each-member {P = P} (each-cons y ys h hs) (List·Memᴰ·head e) = subst P (sym e) h
-each-member (each-cons y ys h hs) (List·Memᴰ·tail m) = each-member hs m
-
-pub pair-small : (p : System) → Good-pack p → (q : Pair) → is-pair p q ≡ true → (q .at-rule < 64) × (q .place < 32)
-pair-small p g q h =
-    let r = pair-rule p q h in
-    let k = pair-place p q h in
-    let l = g .rights (q .at-rule) r in
-    let f = length-flat (rule p (q .at-rule) .right) in
-    (omega (arith, g .rule-count), omega arith)
+use Rattle.partition.specs.Working.{All-pairs, Judgeable}
+use Rattle.partition.proofs.FromRead.{shape}
+use Rattle.checker.specs.Working.{Fillable, Component-fits, Components-from}
 
 module _ (p : System) (ds : List ℕ) (cs : List Component) (read : read-certificate p ds ≡ passed cs) where
-  shape : (i : ℕ) → i < length cs → Shaped p (nth cs i)
-  unfolding nth
-  shape i h = each-at no-component (certificate-shaped p ds cs read) i h
-
-  pub read-are : (i : ℕ) → i < length cs → (q : Pair) → List·Memᴰ q (nth cs i .pairs) → is-pair p q ≡ true
-  read-are i h q m = each-member (shape i h .in-order .are-pairs) m
-
-  pub read-few : length cs < 65535
-  read-few =
-      let a = components-few 0 cs in
-      let b = length-of-records ds in
-      let c = ap length (certificate-read p ds cs read) in
-      let d = length-within p ds cs read in
-      omega arith
-
   module _ (g : Good-pack p) where
     fillable : (ws : List Weight) → Weights-rise ws → Each (At-place p) ws → Fillable ws
     unfolding is-place
@@ -78,7 +53,7 @@ module _ (p : System) (ds : List ℕ) (cs : List Component) (read : read-certifi
     pub read-fits : (i : ℕ) → i < length cs → Component-fits p (nth cs i)
     unfolding All-pairs
     read-fits i h =
-        let s = shape i h in
+        let s = shape p ds cs read i h in
         record {
           few = s .counts .weightings-few;
           pairs-few = s .counts .pairs-few;
@@ -93,9 +68,8 @@ unfolding nth
 all-fit p ds cs read g i h = read-fits p ds cs read g i h
 
 abbrev pub components-from :
-    (p : System) (ds : List ℕ) (components : ℕ) (twice : Bool) (rules : ℕ) (ar ss ns ms os : List ℕ) (j : Judgeable p ds components twice rules ar ss ns ms os) →
-    Components-from p ds components rules ar ss ns ms
-components-from p ds components twice rules ar ss ns ms os j =
+    (p : System) (ds : List ℕ) (components rules : ℕ) (ar ss ns ms : List ℕ) (j : Judgeable p ds components rules ar ss ns ms) → Components-from p ds components rules ar ss ns ms
+components-from p ds components rules ar ss ns ms j =
     record {
       symbols = j .symbols;
       stored = j .stored;

@@ -1,7 +1,4 @@
 -- For the code's own proofs.
--- 8 and 9 by the components that the pairs' slots name
-pub mod Owning
-pub mod OwnersMean
 pub mod FromRead
 pub mod FromStore
 pub mod Positions
@@ -9,4 +6,3 @@ pub mod Tables
 pub mod Runs
 pub mod Verdicts
 pub mod Known
-pub mod Answering

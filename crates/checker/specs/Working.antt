@@ -1,13 +1,13 @@
--- How the code judges: by the component that each pair's slot names, and by dense tables of weights. The contracts between our
--- own functions speak of it; no promise to a user does.
+-- How the code judges the components: by dense tables of weights. The contracts between our own functions speak of it; no
+-- promise to a user does.
 use mathlib.Core.Path.{_≡_}
-use mathlib.Core.Bool.{Bool, true, false, _&&_, _||_, not, cond}
+use mathlib.Core.Bool.{Bool, true, false, not, cond}
 use mathlib.Core.List.{List, [], _∷_, _++_, map}
-use Prim.Native.Nat.{ℕ, zero, suc, _+_, _*_, _≤_, _<_, min}
-use lib.Dec.{ltb, eqb}
+use Prim.Native.Nat.{ℕ, zero, suc, _+_, _*_, _≤_, _<_}
+use lib.Dec.{eqb}
 use lib.ListN.{length, getD, drop, replicate}
 use Rattle.rewriting.specs.Terms.{System}
-use Rattle.rewriting.specs.Pairs.{Pair, is-pair}
+use Rattle.rewriting.specs.Pairs.{Pair}
 use Rattle.records.specs.declared.Record.{Record}
 use Rattle.records.specs.declared.Answer.{Answer}
 use Rattle.records.specs.Outcomes.{Outcome, refused, passed, refusal}
@@ -16,69 +16,20 @@ use Rattle.records.specs.Records.{all-records}
 use Rattle.records.specs.Rising.{rising}
 use Rattle.records.specs.Answers.{outcome-of}
 use Rattle.pack_reader.specs.Stored.{Stored}
-use Rattle.pairs.specs.Listing.{a-pair, pair-records}
-use Rattle.pairs.specs.Arcs.{arc}
-use Rattle.pair_finder.specs.Walking.{Laid}
+use Rattle.pairs.specs.Listing.{pair-records}
 use Rattle.polynomials.specs.Polynomials.{Weight, Weighting}
 use Rattle.weights.specs.declared.Verdict.{Verdict}
 use Rattle.weights.specs.declared.Verdict.the-variants.{Over, Fails, Holds}
 use Rattle.polynomials.specs.Judging.{any, is-none, without, rule-over, rule-rises, call-over, call-falls}
 use Rattle.weights.specs.Working.{Table-is, verdict}
 use Rattle.certificates.specs.Components.{Component, no-component}
-use Rattle.certificates.specs.Reading.{read-certificate}
 use Rattle.certificates.specs.Encoding.{weight-records, component-records}
-use Rattle.certificate_reader.specs.Working.{Owned, doubled, pairs-in}
+use Rattle.partition.specs.Working.{All-pairs}
 use Rattle.judging.specs.Judge.{plain, calls, component-refusal}
-
--- the arrays in which a pack is kept have their lengths, and its sides lie in them
-pub record Kept-pack (rules : ℕ) (arities starts nodes marks : List ℕ) : Type 0 where
-  pub laid : Laid starts nodes rules
-  pub arities-long : length arities ≡ 64
-  pub marks-long : length marks ≡ 64
-  pub nodes-long : length nodes ≤ 65536
-
--- a pair of the system kept there, its right side at `right`
-pub record Pair-kept (p : System) (q : Pair) (rules : ℕ) (arities starts nodes marks : List ℕ) (right : ℕ) : Type 0 where
-  pub symbols : ℕ
-  pub stored : Stored p symbols rules arities starts nodes marks
-  pub is : is-pair p q ≡ true
-  pub at-right : right ≡ getD starts (2 * q .at-rule + 1) 0 + q .place
-
--- a certificate that was read, with what its reading found
-pub record Judgeable (p : System) (certificate : List ℕ) (components : ℕ) (twice : Bool) (rules : ℕ) (arities starts nodes marks owners : List ℕ) : Type 0 where
-  pub symbols : ℕ
-  pub stored : Stored p symbols rules arities starts nodes marks
-  pub all : List Component
-  pub read : read-certificate p certificate ≡ passed all
-  pub counted : components ≡ length all
-  pub doubled-is : twice ≡ doubled (pairs-in all)
-  pub owned : Owned all owners
 
 -- what judging answers: the number, 0 for none
 unfoldable pub Judged-as : (number : ℕ) → Answer → Type 0
 Judged-as n r = refusal (outcome-of r) ≡ n
-
--- the number of the component that a pair's slot names, plus one
-unfoldable pub owner : (owners : List ℕ) → Pair → ℕ
-owner os q = getD os (32 * q .at-rule + q .place) 0
-
--- 8: every pair's slot names one
-unfoldable pub all-owned : (owners : List ℕ) → List Pair → Bool
-all-owned os [] = true
-all-owned os (q ∷ qs) = ltb 0 (owner os q) && all-owned os qs
-
--- 9: the lowest component among some pairs, and whether an arc leads from a pair to a rule with a pair in a lower one
-unfoldable pub lowest : (owners : List ℕ) → List Pair → ℕ
-lowest os [] = 65535
-lowest os (q ∷ qs) = min (owner os q) (lowest os qs)
-
-unfoldable pub back-to : System → (lows : List ℕ) → (own : ℕ) → Pair → (rules : ℕ) → Bool
-back-to p ls own q zero = false
-back-to p ls own q (suc s) = back-to p ls own q s || (ltb (getD ls s 0) own && arc p q (a-pair s 0))
-
-unfoldable pub any-back : System → (lows owners : List ℕ) → (rules : ℕ) → List Pair → Bool
-any-back p ls os n [] = false
-any-back p ls os n (q ∷ qs) = back-to p ls (owner os q) q n || any-back p ls os n qs
 
 -- THE RECORDS OF A COMPONENT stand from a record on
 pub record Component-at (certificate : List ℕ) (at : ℕ) (c : Component) : Type 0 where
@@ -121,10 +72,6 @@ pub record Same-weights (vs ws : List Weight) (from after : ℕ) : Type 0 where
 pub record Pairs-at (certificate : List ℕ) (from : ℕ) (qs : List Pair) : Type 0 where
   pub rest : List Record
   pub are : drop from (all-records certificate) ≡ pair-records qs ++ rest
-
--- every one of them is a pair
-unfoldable pub All-pairs : System → List Pair → Type 0
-All-pairs p qs = (k : ℕ) → k < length qs → is-pair p (getD qs k (a-pair 0 0)) ≡ true
 
 -- what judging a component rests on, of the reader's checks
 pub record Component-fits (p : System) (c : Component) : Type 0 where

@@ -16,7 +16,9 @@ ghost use Rattle.polynomials.specs.Polynomials.{Weight};
 ghost use Rattle.weights.specs.Working.{Table-is};
 ghost use Rattle.certificates.specs.Components.{Component};
 ghost use Rattle.judging.specs.Judge.{components-refusal, plain};
-ghost use Rattle.checker.specs.Working.{Kept-pack, Component-at, Component-fits, Component-judged, Weights-at, Pairs-at, All-pairs, chosen, calls-verdict, Rules-known, last-weights, Known-after, Components-from};
+ghost use Rattle.pair_finder.specs.Walking.{Kept-pack};
+ghost use Rattle.partition.specs.Working.{All-pairs};
+ghost use Rattle.checker.specs.Working.{Component-at, Component-fits, Component-judged, Weights-at, Pairs-at, chosen, calls-verdict, Rules-known, last-weights, Known-after, Components-from};
 
 // The first in the paper's order: 11 for either, 12 for the rules, 13 for the pairs.
 fn choose(rules: Verdict, calls: Verdict, next: usize) -> Answer

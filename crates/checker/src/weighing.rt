@@ -14,7 +14,9 @@ ghost use Rattle.polynomials.specs.Polynomials.{Weight};
 ghost use Rattle.polynomials.specs.Judging.{any, is-none, without, rule-over, rule-rises, call-over, call-falls};
 ghost use Rattle.weights.specs.Working.{Table-is, verdict};
 ghost use Rattle.judging.specs.Judge.{calls};
-ghost use Rattle.checker.specs.Working.{Kept-pack, Weights-at, Same-weights, Pairs-at, All-pairs};
+ghost use Rattle.pair_finder.specs.Walking.{Kept-pack};
+ghost use Rattle.partition.specs.Working.{All-pairs};
+ghost use Rattle.checker.specs.Working.{Weights-at, Same-weights, Pairs-at};
 
 // Fills a table from the weight records of a kind that stand from record `from` on. Answers the record after them.
 pub fn fill(certificate: &[u8], from: usize, kind: u8, table: &mut [u16]) -> usize

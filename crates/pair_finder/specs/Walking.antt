@@ -88,3 +88,17 @@ Place-answer p ss i k x =
 pub record Written (at : ℕ) (qs : List Pair) (r : ℕ) (before now : List ℕ) : Type 0 where
   pub ends : r ≡ at + 8 * length qs
   pub list-is : now ≡ take at before ++ (pair-bytes qs ++ drop (at + 8 * length qs) before)
+
+-- the arrays in which a pack is kept have their lengths, and its sides lie in them
+pub record Kept-pack (rules : ℕ) (arities starts nodes marks : List ℕ) : Type 0 where
+  pub laid : Laid starts nodes rules
+  pub arities-long : length arities ≡ 64
+  pub marks-long : length marks ≡ 64
+  pub nodes-long : length nodes ≤ 65536
+
+-- a pair of the system kept there, its right side at `right`
+pub record Pair-kept (p : System) (q : Pair) (rules : ℕ) (arities starts nodes marks : List ℕ) (right : ℕ) : Type 0 where
+  pub symbols : ℕ
+  pub stored : Stored p symbols rules arities starts nodes marks
+  pub is : is-pair p q ≡ true
+  pub at-right : right ≡ getD starts (2 * q .at-rule + 1) 0 + q .place

@@ -21,16 +21,14 @@ use Rattle.pack_reader.specs.declared.Counts.{Counts}
 use Rattle.packs.specs.Reading as packs
 use Rattle.packs.specs.Reading.{read-pack, pack-in}
 use Rattle.pack_reader.specs.Stored.{Stored}
-use Rattle.certificate_reader.specs.declared.Found.{Found}
-use Rattle.certificate_reader.specs.declared.CertificateRead.{CertificateRead}
-use Rattle.certificate_reader.specs.declared.CertificateRead.the-variants.{Read, Refused as NotRead}
 use Rattle.certificates.specs.Components.{Component}
 use Rattle.certificates.specs.Reading as certificates
 use Rattle.certificates.specs.Reading.{read-certificate}
-use Rattle.certificate_reader.specs.Working.{Certificate-read, doubled, pairs-in, Owned}
+use Rattle.certificate_reader.specs.Working.{Certificate-read}
 use Rattle.judging.specs.Judge.{judged, plain}
 use Rattle.judging.specs.Check.{check}
-use Rattle.checker.specs.Working.{Judgeable, Judged-as}
+use Rattle.partition.specs.Working.{Judgeable}
+use Rattle.checker.specs.Working.{Judged-as}
 use Rattle.judging.proofs.Checking.{check-cut, check-of-read, pack-first, then-certificate}
 use Rattle.promises.specs.Promises
 use Rattle.promises.proofs.Kept.{accepted-terminates}
@@ -70,55 +68,37 @@ pub pack-stops : (bs ds : List ℕ) (x : Refusal) → length-bad certificates.mo
 pack-stops bs ds x k e = pack-first bs ds (number-of x) k e
 
 -- THE CERTIFICATE
-pub certificate-refused : (o : Outcome (List Component)) (r : CertificateRead) (os : List ℕ) (x : Refusal) → Certificate-read o r os → r ≡ NotRead x → o ≡ refused (number-of x)
+pub certificate-refused : (o : Outcome (List Component)) (r : Answer) (x : Refusal) → Certificate-read o r → r ≡ Refused x → o ≡ refused (number-of x)
 unfolding Certificate-read
-certificate-refused (refused n) r os x a h =
-    let e = a .1 in
-    let g : a .0 ≡ x = cc in
-    ap refused (sym (a .2) ∙ ap number-of g)
-certificate-refused (passed cs) r os x a h =
-    let e = a .1 in
+certificate-refused (refused n) r x a h =
+    let e : _≡_ {A = Outcome ℕ} (refused (number-of x)) (refused n) = sym (ap outcome-of h) ∙ a in
+    let same : n ≡ number-of x = cc in
+    ap refused same
+certificate-refused (passed cs) r x a h =
+    let e : _≡_ {A = Outcome ℕ} (refused (number-of x)) (passed (length cs)) = sym (ap outcome-of h) ∙ a in
     absurd (let z : _≡_ {A = ℕ} 0 1 = cc in omega arith)
 
-pub record Found-as (o : Outcome (List Component)) (f : Found) (os : List ℕ) : Type 0 where
+pub record Found-as (o : Outcome (List Component)) (components : ℕ) : Type 0 where
   pub all : List Component
   pub is : o ≡ passed all
-  pub counted : f .components ≡ length all
-  pub doubled-is : f .twice ≡ doubled (pairs-in all)
-  pub owned : Owned all os
+  pub counted : components ≡ length all
 
-pub certificate-found : (o : Outcome (List Component)) (r : CertificateRead) (os : List ℕ) (f : Found) → Certificate-read o r os → r ≡ Read f → Found-as o f os
+pub certificate-found : (o : Outcome (List Component)) (r : Answer) (n : ℕ) → Certificate-read o r → r ≡ Passed n → Found-as o n
 unfolding Certificate-read
-certificate-found (refused n) r os f a h =
-    let e = a .1 in
+certificate-found (refused m) r n a h =
+    let e : passed n ≡ refused m = sym (ap outcome-of h) ∙ a in
     absurd (let z : _≡_ {A = ℕ} 0 1 = cc in omega arith)
-certificate-found (passed cs) r os f a h =
-    let e = a .1 in
-    let g : a .0 ≡ f = cc in
-    record {
-      all = cs;
-      is = refl;
-      counted = ap (λ (y : Found). y .components) (sym g) ∙ a .2;
-      doubled-is = ap (λ (y : Found). y .twice) (sym g) ∙ a .3;
-      owned = a .4;
-    }
+certificate-found (passed cs) r n a h =
+    let e : passed n ≡ passed (length cs) = sym (ap outcome-of h) ∙ a in
+    record { all = cs; is = refl; counted = cc }
 
 module _ (bs ds : List ℕ) (c : Counts) (ar ss ns ms : List ℕ) (k : Kept-as (read-pack bs) c ar ss ns ms) where
   pub certificate-stops : (x : Refusal) → read-certificate (k .system) ds ≡ refused (number-of x) → check bs ds ≡ number-of x
   certificate-stops x e = then-certificate bs ds (k .system) (number-of x) (k .is) e
 
-  module _ (f : Found) (os : List ℕ) (w : Found-as (read-certificate (k .system) ds) f os) where
-    abbrev pub judgeable : Judgeable (k .system) ds (f .components) (f .twice) (c .rules) ar ss ns ms os
-    judgeable =
-        record {
-          symbols = c .symbols;
-          stored = k .stored;
-          all = w .all;
-          read = w .is;
-          counted = w .counted;
-          doubled-is = w .doubled-is;
-          owned = w .owned;
-        }
+  module _ (components : ℕ) (w : Found-as (read-certificate (k .system) ds) components) where
+    abbrev pub judgeable : Judgeable (k .system) ds components (c .rules) ar ss ns ms
+    judgeable = record { symbols = c .symbols; stored = k .stored; all = w .all; read = w .is; counted = w .counted }
 
     check-is : check bs ds ≡ judged (k .system) (plain (k .system)) (w .all)
     check-is = check-of-read bs ds (k .system) (w .all) (k .is) (w .is)

@@ -1,7 +1,6 @@
 // The loader's three entries: the check, the listing and the arc question; and the same as C functions.
 mod c;
 
-use certificate_reader::CertificateRead;
 use pack_reader::PackRead;
 use pairs::ArcAnswer;
 use records::Answer;
@@ -39,7 +38,6 @@ pub fn check_certificate(pack: &[u8], certificate: &[u8]) -> Checked
     let mut starts = [0u16; 129];
     let mut nodes = [0u8; 4096];
     let mut marks = [0u8; 64];
-    let mut owners = [0u16; 2048];
     match pack_reader::read_pack(pack, &mut arities, &mut starts, &mut nodes, &mut marks) {
         PackRead::Refused(x) => Checked::Refused(x),
         PackRead::Read(c) => {
@@ -53,20 +51,17 @@ pub fn check_certificate(pack: &[u8], certificate: &[u8]) -> Checked
                 &starts,
                 &nodes,
                 &marks,
-                &mut owners,
             ) {
-                CertificateRead::Refused(x) => Checked::Refused(x),
-                CertificateRead::Read(f) => {
+                Answer::Refused(x) => Checked::Refused(x),
+                Answer::Passed(components) => {
                     match checker::judge(
                         certificate,
-                        f.components,
-                        f.twice,
+                        components,
                         rules,
                         &arities,
                         &starts,
                         &nodes,
                         &marks,
-                        &owners,
                     ) {
                         Answer::Refused(x) => Checked::Refused(x),
                         Answer::Passed(_) => Checked::Accepted,

@@ -1,71 +1,82 @@
--- `checker::judge` meets its contract: 8 for a pair that stands twice or not at all, 9 for an arc back, else the components'.
+-- `checker::judge` meets its contract: 8 and 9, else the components'.
 use mathlib.Core.Path.{_≡_, refl, sym, ap, _∙_}
-use mathlib.Core.Bool.{true, false}
-use native.Mathlib.Omega.{arith}
+use mathlib.Core.Bool.{Bool, true, false, cond}
+use mathlib.Core.List.{List, []}
+use Prim.Native.Nat.{ℕ}
+use lib.Dec.{eqb}
 use borrow.Author.Needs.{needs}
-use borrow.Author.Tests.{not-true, not-false}
-use Rattle.checker.specs.Working.{Judged-as, Judgeable}
+use Rattle.rewriting.specs.Terms.{System}
+use Rattle.records.specs.declared.Answer.{Answer}
+use Rattle.records.specs.declared.Answer.the-variants.{Passed, Refused}
+use Rattle.records.specs.declared.Refusal.{Refusal}
+use Rattle.records.specs.declared.Refusal.the-variants.{CutFile, StrayRecord, OutOfRange, BrokenSide, BareLeft, LooseVariable, NoSuchPair, PairCount, BackArc, SelfArc, Heavy, RuleRises, PairStays, ShortList}
+use Rattle.records.specs.Outcomes.{refusal}
+use Rattle.records.specs.Answers.{number-of, outcome-of}
+use Rattle.pairs.specs.Listing.{pairs}
+use Rattle.certificates.specs.Components.{Component}
+use Rattle.judging.specs.Judge.{plain, all-pairs, each-once, back-arc, components-refusal, judged}
+use Rattle.partition.specs.Working.{ordered, Ordered-as}
+use Rattle.checker.specs.Working.{Judged-as}
 use Rattle.checker.proofs.FromRead.{components-from}
-use Rattle.checker.proofs.Answering.{twice-answer, missing-answer, back-answer, components-answer}
 use Rattle.checker.proofs.judge.Statement.{statement}
 use Rattle.checker.proofs.judge.Tie as tie
 
+-- 8 or 9 stands; without them the components decide
+either-way : (once back : Bool) (n : ℕ) →
+    cond once (cond back 9 n) 8 ≡ cond (eqb (cond once (cond back 9 0) 8) 0) n (cond once (cond back 9 0) 8)
+either-way true true n = refl
+either-way true false n = refl
+either-way false back n = refl
+
+judged-then : (p : System) (cs : List Component) → judged p (plain p) cs ≡ cond (eqb (ordered p cs) 0) (components-refusal p (plain p) cs) (ordered p cs)
+unfolding judged ordered
+judged-then p cs = either-way (each-once (pairs p) (all-pairs cs)) (back-arc (plain p) [] cs) (components-refusal p (plain p) cs)
+
+some-number : (x : Refusal) → eqb (number-of x) 0 ≡ false
+some-number CutFile = refl
+some-number StrayRecord = refl
+some-number OutOfRange = refl
+some-number BrokenSide = refl
+some-number BareLeft = refl
+some-number LooseVariable = refl
+some-number NoSuchPair = refl
+some-number PairCount = refl
+some-number BackArc = refl
+some-number SelfArc = refl
+some-number Heavy = refl
+some-number RuleRises = refl
+some-number PairStays = refl
+some-number ShortList = refl
+
+refused-stays : (p : System) (cs : List Component) (r : Answer) (x : Refusal) → r ≡ Refused x → Ordered-as p cs r → judged p (plain p) cs ≡ number-of x
+unfolding Ordered-as
+refused-stays p cs r x e h =
+    let n : ordered p cs ≡ number-of x = sym h ∙ ap (λ (a : Answer). refusal (outcome-of a)) e in
+    judged-then p cs ∙ rw (n, some-number x)
+
+passed-on : (p : System) (cs : List Component) (r : Answer) (n : ℕ) → r ≡ Passed n → Ordered-as p cs r → judged p (plain p) cs ≡ components-refusal p (plain p) cs
+unfolding Ordered-as
+passed-on p cs r n e h =
+    let z : ordered p cs ≡ 0 = sym h ∙ ap (λ (a : Answer). refusal (outcome-of a)) e in
+    judged-then p cs ∙ rw z
+
+asked : tie.Need-judge-components-requires
+asked c κs =
+    let start = c .before .before .before .before .before .before .before .before in
+    let a = start .args in
+    let w = start .pre .3 in
+    (start .pre .0, start .pre .1, start .pre .2, (w .0, components-from (w .0) (a .certificate .now) (a .components) (a .rules) _ _ _ _ (w .1)))
+
 returns : tie.Need-returns
 unfolding Judged-as
-returns c = λ p j.
-    let a = c .before .before .before .before .before .before .before .args in
-    sym (twice-answer p (a .certificate .now) (a .components) (a .twice) (a .rules) (a .arities .now) (a .starts .now) (a .nodes .now) (a .marks .now) (a .owners .now) j (c .if1 .taken))
+returns c = λ p j. sym (refused-stays p (j .all) _ _ (c .before .x .given .1) (c .before .before .before .judge .ensures p j))
 
 returns-2 : tie.Need-returns-2
 unfolding Judged-as
 returns-2 c = λ p j.
     let a = c .before .before .before .before .before .before .before .before .before .args in
-    sym (missing-answer p (a .certificate .now) (a .components) (a .twice) (a .rules) (a .arities .now) (a .starts .now) (a .nodes .now) (a .marks .now) (a .owners .now) j (sym (c .before .all-owned .ensures) ∙ not-true _ (c .if2 .taken)))
-
-returns-3 : tie.Need-returns-3
-unfolding Judged-as
-returns-3 c = λ p j.
-    let found = c .before in
-    let low = found .before .before .before in
-    let owned = low .before .before in
-    let a = c .before .before .before .before .before .before .before .before .before .before .before .before .before .before .before .args in
-    sym
-    (back-answer p (a .certificate .now) (a .components) (a .twice) (a .rules) (a .arities .now) (a .starts .now) (a .nodes .now) (a .marks .now) (a .owners .now) j (owned .before .before .if1 .left)
-    (sym (owned .before .all-owned .ensures) ∙ not-false _ (owned .if2 .left)) _ (low .lowest-owners .ensures)
-    (sym (found .arc-back .ensures p (j .symbols) (j .stored)) ∙ c .if3 .taken))
-
-asked : tie.Need-judge-components-requires
-asked c κs =
-    let start = c .before .before .before .before .before .before .before .before .before .before .before .before .before .before .before in
-    let a = start .args in
-    let w = start .pre .4 in
-    (start .pre .0, start .pre .1, start .pre .2, (w .0, components-from (w .0) (a .certificate .now) (a .components) (a .twice) (a .rules) (a .arities .now) (a .starts .now) (a .nodes .now) (a .marks .now) (a .owners .now) (w .1)))
-
-returns-4 : tie.Need-returns-4
-unfolding Judged-as
-returns-4 c = λ p j.
-    let none = c .before in
-    let found = none .before in
-    let low = found .before .before .before in
-    let owned = low .before .before in
-    let a = c .before .before .before .before .before .before .before .before .before .before .before .before .before .before .before .before .args in
-    c .judge-components .ensures p (components-from p (a .certificate .now) (a .components) (a .twice) (a .rules) (a .arities .now) (a .starts .now) (a .nodes .now) (a .marks .now) (a .owners .now) j)
-    ∙ sym
-    (components-answer p (a .certificate .now) (a .components) (a .twice) (a .rules) (a .arities .now) (a .starts .now) (a .nodes .now) (a .marks .now) (a .owners .now) j (owned .before .before .if1 .left)
-    (sym (owned .before .all-owned .ensures) ∙ not-false _ (owned .if2 .left)) _ (low .lowest-owners .ensures)
-    (sym (found .arc-back .ensures p (j .symbols) (j .stored)) ∙ none .if3 .left))
+    c .judge-components .ensures p (components-from p (a .certificate .now) (a .components) (a .rules) _ _ _ _ j)
+    ∙ sym (passed-on p (j .all) _ _ (c .before .enum-told .given .1) (c .before .before .before .judge .ensures p j))
 
 pub judge-spec : {M : Type 1} → statement M
-judge-spec =
-    tie.close
-    (tie.spec
-    returns
-    (λ c κs. search needs)
-    returns-2
-    (λ c. search needs)
-    (λ c κs. search needs)
-    (λ c. search needs)
-    (λ c κs. search needs)
-    returns-3
-    asked
-    returns-4)
+judge-spec = tie.close (tie.spec (λ c κs. search needs) (λ c. search needs) (λ c. search needs) asked returns returns-2)

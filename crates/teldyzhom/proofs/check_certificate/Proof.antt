@@ -25,20 +25,19 @@ kept c = pack-kept _ _ _ _ _ _ _ (reading c .read-pack .ensures) (c .c .given .1
 
 -- the certificate was read
 abbrev counted : tie.After-read-certificate → tie.After-c
-counted c = c .before .before .before .before .before .before .before
+counted c = c .before .before .before .before .before .before
 
-abbrev told : tie.After-f → tie.After-read-certificate
-told c = c .before .before .before
+abbrev told : tie.After-components → tie.After-read-certificate
+told c = c .before .before
 
-found : (c : tie.After-f) → let q = counted (told c) in
-    Found-as (read-certificate (kept q .system) (start (reading q) .args .certificate .now)) (c .f .given .0 .0) (told c .read-certificate .last .1 .1 .1 .1 .1 .1 .1 .0)
+found : (c : tie.After-components) → let q = counted (told c) in Found-as (read-certificate (kept q .system) (start (reading q) .args .certificate .now)) (c .components .given .0 .0)
 found c =
     let q = counted (told c) in
-    certificate-found _ _ _ _ (told c .read-certificate .ensures (kept q .system) (kept q .stored)) (c .f .given .1)
+    certificate-found _ _ _ (told c .read-certificate .ensures (kept q .system) (kept q .stored)) (c .components .given .1)
 
 to-read : tie.Need-read-certificate-requires
 to-read c κs =
-    let q = c .before .before .before .before .before .before in
+    let q = c .before .before .before .before .before in
     let r = reading q in
     let test = r .before .before .before .before .before in
     let k = kept q in (
@@ -48,12 +47,11 @@ to-read c κs =
       omega (arith, r .read-pack .kept),
       stored-laid _ _ _ _ _ _ _ (k .stored) (omega (arith, r .read-pack .kept)),
       omega (arith, r .read-pack .kept),
-      refl,
     )
 
 to-judge : tie.Need-judge-requires
 to-judge c κs =
-    let f = c .before .before .before .before .before .before in
+    let f = c .before .before .before .before .before in
     let t = told f in
     let q = counted t in
     let r = reading q in
@@ -67,8 +65,7 @@ to-judge c κs =
         marks-long = omega (arith, r .read-pack .kept);
         nodes-long = omega (arith, r .read-pack .kept);
       },
-      omega (arith, t .read-certificate .kept),
-      (k .system, judgeable _ _ _ _ _ _ _ k _ _ (found f)),
+      (k .system, judgeable _ _ _ _ _ _ _ k _ (found f)),
     )
 
 returns : tie.Need-returns
@@ -91,34 +88,34 @@ returns-3 c =
 returns-4 : tie.Need-returns-4
 unfolding Meets
 returns-4 c =
-    let t = c .before .before .before .before in
+    let t = c .before .before .before in
     let q = counted t in
     let a = start (reading q) .args in
     let k = kept q in
     meets-refused (a .pack .now) (a .certificate .now) _
-    (certificate-stops _ _ _ _ _ _ _ k (c .before .x2 .given .0 .0) (certificate-refused _ _ _ _ (t .read-certificate .ensures (k .system) (k .stored)) (c .before .x2 .given .1)))
+    (certificate-stops _ _ _ _ _ _ _ k (c .before .x2 .given .0 .0) (certificate-refused _ _ _ (t .read-certificate .ensures (k .system) (k .stored)) (c .before .x2 .given .1)))
 
 returns-5 : tie.Need-returns-5
 unfolding Meets
 returns-5 c =
     let g = c .before .before .before in
-    let f = g .before .before .before .before .before .before .before in
+    let f = g .before .before .before .before .before .before in
     let q = counted (told f) in
     let a = start (reading q) .args in
     let k = kept q in
     meets-refused (a .pack .now) (a .certificate .now) _
-    (judge-stops _ _ _ _ _ _ _ k _ _ (found f) _ _ (g .judge .ensures (k .system) (judgeable _ _ _ _ _ _ _ k _ _ (found f))) (c .before .x3 .given .1))
+    (judge-stops _ _ _ _ _ _ _ k _ (found f) _ _ (g .judge .ensures (k .system) (judgeable _ _ _ _ _ _ _ k _ (found f))) (c .before .x3 .given .1))
 
 returns-6 : tie.Need-returns-6
 unfolding Meets
 returns-6 c =
     let g = c .before .before in
-    let f = g .before .before .before .before .before .before .before in
+    let f = g .before .before .before .before .before .before in
     let q = counted (told f) in
     let a = start (reading q) .args in
     let k = kept q in
     meets-accepted (a .pack .now) (a .certificate .now)
-    (judge-passes _ _ _ _ _ _ _ k _ _ (found f) _ _ (g .judge .ensures (k .system) (judgeable _ _ _ _ _ _ _ k _ _ (found f))) (c .enum-told .given .1))
+    (judge-passes _ _ _ _ _ _ _ k _ (found f) _ _ (g .judge .ensures (k .system) (judgeable _ _ _ _ _ _ _ k _ (found f))) (c .enum-told .given .1))
 
 pub check-certificate-spec : {M : Type 1} → statement M
 check-certificate-spec =
@@ -137,9 +134,7 @@ check-certificate-spec =
     (λ c. search needs)
     (λ c. search needs)
     (λ c. search needs)
-    (λ c. search needs)
     to-read
-    (λ c. search needs)
     (λ c. search needs)
     (λ c. search needs)
     (λ c. search needs)

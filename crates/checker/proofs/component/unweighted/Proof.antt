@@ -21,7 +21,8 @@ use Rattle.pair_finder.proofs.FromStore.{stored-arc, stored-arc-answer}
 use Rattle.polynomials.specs.Polynomials.{Weighting}
 use Rattle.certificates.specs.Components.{Component}
 use Rattle.judging.specs.Judge.{plain, weighed-refusal, component-refusal}
-use Rattle.checker.specs.Working.{Component-at, Component-fits, Component-judged, All-pairs, weight-count, record-count}
+use Rattle.partition.specs.Working.{All-pairs}
+use Rattle.checker.specs.Working.{Component-at, Component-fits, Component-judged, weight-count, record-count}
 use Rattle.judging.proofs.Components.{only-arc}
 use Rattle.checker.proofs.FromStore.{pair-in-rules}
 use Rattle.checker.proofs.Positions.{pairs-here, pair-here}

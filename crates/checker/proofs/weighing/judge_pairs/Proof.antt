@@ -21,7 +21,8 @@ use Rattle.polynomials.specs.Polynomials.{Weight, Weighting}
 use Rattle.polynomials.specs.Judging.{call-over, call-falls}
 use Rattle.weights.specs.Working.{Table-is, Applied, verdict}
 use Rattle.judging.specs.Judge.{call, calls}
-use Rattle.checker.specs.Working.{Pairs-at, All-pairs}
+use Rattle.partition.specs.Working.{All-pairs}
+use Rattle.checker.specs.Working.{Pairs-at}
 use Rattle.checker.proofs.FromStore.{weighting, pair-in-rules, left-applied, right-applied, call-answer}
 use Rattle.checker.proofs.Positions.{pair-here}
 use Rattle.checker.proofs.Verdicts.{To-judge, Found, calls-hold, calls-asked, none-judged, some-failed, none-failed, one-over, one-fails, one-holds}
