@@ -6,6 +6,8 @@ ghost use mathlib.Core.List.{List};
 ghost use Prim.Native.Nat.{ℕ, _+_, _≤_};
 ghost use lib.ListN.{length};
 ghost use Rattle.rewriting.specs.Terms.{System};
+ghost use Rattle.terms.specs.Sides.{flat};
+ghost use Rattle.terms.specs.Kept.{Term-at};
 ghost use Rattle.pack_reader.specs.Stored.{Stored};
 ghost use Rattle.pairs.specs.Listing.{a-pair};
 ghost use Rattle.pairs.specs.Arcs.{may-reach, arc};
@@ -49,7 +51,27 @@ fn may_reach(arities: &[u8], marks: &[u8], nodes: &[u8], u: usize, end: usize, v
     true
 }
 
-// An arc runs from the pair whose right side is kept at `right` to the pairs of rule `other`.
+// An arc runs from the pair whose right side is kept from `right` to `end` to the pairs of rule `other`.
+pub fn arc_to(
+    arities: &[u8],
+    starts: &[u16],
+    nodes: &[u8],
+    marks: &[u8],
+    right: usize,
+    end: usize,
+    other: usize,
+) -> bool
+    requires { ⌜ (length (now arities) ≡ 64) × (length (now starts) ≡ 129) × (length (now marks) ≡ 64) × (length (now nodes) ≤ 65536) × ((s : Term-at (now arities) (now nodes) right) → end ≡ right + length (flat (s .term))) × Arc-asked (now arities) (now starts) (now nodes) (now marks) right other ⌝ }
+    ensures { λ r. ⌜ ((a : Arc-asked (now (arities .entry)) (now (starts .entry)) (now (nodes .entry)) (now (marks .entry)) right other) → r ≡ arc (a .system) (a .pair) (a-pair other 0)) ⌝ }
+{
+    let left = starts[2 * other] as usize;
+    if nodes[right] != nodes[left] {
+        return false;
+    }
+    may_reach(arities, marks, nodes, right + 1, end, left + 1)
+}
+
+// The same where the end is not known yet.
 pub fn arc_from(
     arities: &[u8],
     starts: &[u16],
@@ -61,12 +83,8 @@ pub fn arc_from(
     requires { ⌜ (length (now arities) ≡ 64) × (length (now starts) ≡ 129) × (length (now marks) ≡ 64) × (length (now nodes) ≤ 65536) × Arc-asked (now arities) (now starts) (now nodes) (now marks) right other ⌝ }
     ensures { λ r. ⌜ ((a : Arc-asked (now (arities .entry)) (now (starts .entry)) (now (nodes .entry)) (now (marks .entry)) right other) → r ≡ arc (a .system) (a .pair) (a-pair other 0)) ⌝ }
 {
-    let left = starts[2 * other] as usize;
-    if nodes[right] != nodes[left] {
-        return false;
-    }
     let end = terms::skip(arities, nodes, right);
-    may_reach(arities, marks, nodes, right + 1, end, left + 1)
+    arc_to(arities, starts, nodes, marks, right, end, other)
 }
 
 // Where among the nodes the right side of a pair is kept, or 7.

@@ -62,10 +62,11 @@ fn back_from(
     requires { ⌜ Kept-pack rules (now arities) (now starts) (now nodes) (now marks) × (length (now lows) ≡ 64) × ((p : System) × (q : Pair) × Pair-kept p q rules (now arities) (now starts) (now nodes) (now marks) right) ⌝ }
     ensures { λ r. ⌜ ((p : System) (q : Pair) → Pair-kept p q rules (now (arities .entry)) (now (starts .entry)) (now (nodes .entry)) (now (marks .entry)) right → r ≡ back-to p (now (lows .entry)) own q rules) ⌝ }
 {
+    let end = terms::skip(arities, nodes, right);
     let mut s = 0;
     while s < rules {
         if lows[s] < own {
-            if pair_finder::arcs::arc_from(arities, starts, nodes, marks, right, s) {
+            if pair_finder::arcs::arc_to(arities, starts, nodes, marks, right, end, s) {
                 return true;
             }
         }

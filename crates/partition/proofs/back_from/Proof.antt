@@ -11,20 +11,22 @@ use lib.Dec.{ltb}
 use lib.ListN.{length, getD}
 use Rattle.rewriting.specs.Terms.{System}
 use Rattle.rewriting.specs.Pairs.{Pair}
+use Rattle.rewriting.proofs.Pairs.{pair-rule}
 use Rattle.pairs.specs.Listing.{a-pair}
 use Rattle.pairs.specs.Arcs.{arc}
 use Rattle.pair_finder.specs.Walking.{Arc-asked, Pair-kept}
+use Rattle.pair_finder.proofs.Asked.{right-at}
 use Rattle.partition.specs.Working.{back-to}
 use Rattle.partition.proofs.Backward.{back-to-some}
 use Rattle.partition.proofs.back_from.Statement.{statement}
 use Rattle.partition.proofs.back_from.Tie as tie
 
 abbrev Inv-loop : tie.InvT-loop
-Inv-loop arities starts nodes marks rules lows right own s₀ s =
+Inv-loop arities starts nodes marks rules lows right own end s₀ s =
     (s ≤ rules) × ((p : System) (q : Pair) → Pair-kept p q rules arities starts nodes marks right → back-to p lows own q s ≡ false)
 
 abbrev μ-loop : tie.MeasureT-loop
-μ-loop arities starts nodes marks rules lows right own s₀ s = rules - s
+μ-loop arities starts nodes marks rules lows right own end s₀ s = rules - s
 
 -- an arc may be asked of a pair that is kept
 abbrev pub asked-of : (p : System) (q : Pair) (rules : ℕ) (ar ss ns ms : List ℕ) (right s : ℕ) → Pair-kept p q rules ar ss ns ms right → s < rules → Arc-asked ar ss ns ms right s
@@ -39,11 +41,20 @@ and-false : (a : Bool) → (a && false) ≡ false
 and-false true = refl
 and-false false = refl
 
-asked : tie.Need-arc-from-requires Inv-loop μ-loop
+-- the pair's own rule is one, so its right side is a term
+ended : tie.Need-skip-requires Inv-loop μ-loop
+ended c κs =
+    let start = c .before .before .before .before .before in
+    let a = start .args in
+    let w = start .pre .2 in
+    let h : w .1 .at-rule < a .rules = omega (arith, pair-rule (w .0) (w .1) (w .2 .is), w .2 .stored .rules-are) in
+    (start .pre .0 .arities-long, start .pre .0 .nodes-long, right-at _ _ _ _ _ _ (asked-of (w .0) (w .1) (a .rules) (a .arities .now) (a .starts .now) (a .nodes .now) (a .marks .now) (a .right) (w .1 .at-rule) (w .2) h))
+
+asked : tie.Need-arc-to-requires Inv-loop μ-loop
 asked c κs =
     let turn = c .before .before in
     let l = turn .before .loop in
-    let start = turn .before .before .before .before .before .before .before in
+    let start = turn .before .before .before .before .before .before .before .before in
     let a = start .args in
     let pack = start .pre .0 in
     let w = start .pre .2 in (
@@ -51,6 +62,7 @@ asked c κs =
       pack .laid .starts-long,
       pack .marks-long,
       pack .nodes-long,
+      turn .before .before .skip .ensures,
       asked-of (w .0) (w .1) (a .rules) (a .arities .now) (a .starts .now) (a .nodes .now) (a .marks .now) (a .right) (l .s) (w .2) (turn .loop-test .taken),
     )
 
@@ -59,17 +71,17 @@ returns c = λ p q k.
     let lower = c .before .before in
     let turn = lower .before .before in
     let l = turn .before .loop in
-    let a = turn .before .before .before .before .before .before .before .args in
+    let a = turn .before .before .before .before .before .before .before .before .args in
     let h = turn .loop-test .taken in
     sym
     (back-to-some p (a .lows .now) (a .own) q (l .s) (a .rules) h (lt-ltb _ _ (lower .if1 .taken))
-    (sym (c .before .arc-from .ensures (asked-of p q (a .rules) (a .arities .now) (a .starts .now) (a .nodes .now) (a .marks .now) (a .right) (l .s) k h)) ∙ c .if2 .taken))
+    (sym (c .before .arc-to .ensures (asked-of p q (a .rules) (a .arities .now) (a .starts .now) (a .nodes .now) (a .marks .now) (a .right) (l .s) k h)) ∙ c .if2 .taken))
 
 again : tie.Need-loop-again Inv-loop μ-loop
 again c =
     let turn = c .before .before in
     let l = turn .before .loop in
-    let a = turn .before .before .before .before .before .before .before .args in
+    let a = turn .before .before .before .before .before .before .before .before .args in
     let h = turn .loop-test .taken in (
       omega arith,
       λ p q k.
@@ -86,7 +98,7 @@ again c =
 returns-2 : tie.Need-returns-2 Inv-loop μ-loop
 returns-2 c = λ p q k.
     let l = c .before .loop in
-    let e : l .s ≡ c .before .before .before .before .before .before .before .args .rules = omega arith in
+    let e : l .s ≡ c .before .before .before .before .before .before .before .before .args .rules = omega arith in
     rw (← e) (sym (l .inv .1 p q k))
 
 pub back-from-spec : {M : Type 1} → statement M
@@ -96,9 +108,10 @@ back-from-spec =
     (tie.spec
     Inv-loop
     μ-loop
+    ended
     (λ c. (omega arith, λ p q k. refl))
-    (λ c. omega (arith, (c .before .before .before .before .before .before .before .pre .0 .laid .few)))
     (λ c. omega (arith, (c .before .before .before .before .before .before .before .before .pre .0 .laid .few)))
+    (λ c. omega (arith, (c .before .before .before .before .before .before .before .before .before .pre .0 .laid .few)))
     asked
     returns
     (λ c. omega arith)

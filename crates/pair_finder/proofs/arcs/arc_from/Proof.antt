@@ -1,50 +1,15 @@
--- `pairs::arcs::arc_from` meets its contract: unlike first bytes are unlike roots, like ones leave it to the arguments.
-use mathlib.Core.Path.{sym}
-use Prim.Native.Nat.{_*_, _<_}
-use native.Mathlib.Omega.{arith}
-use lib.ListN.{length, getD}
-use Rattle.pair_finder.proofs.Kept.{term-within}
-use Rattle.pair_finder.proofs.Asked.{other-small, right-at, left-at, no-arc, to-walk, arc-walked}
+-- `pair_finder::arcs::arc_from` meets its contract.
+use Rattle.pair_finder.proofs.Asked.{right-at}
 use Rattle.pair_finder.proofs.arcs.arc_from.Statement.{statement}
 use Rattle.pair_finder.proofs.arcs.arc_from.Tie as tie
 
-no-root : tie.Need-returns
-no-root c a = sym (no-arc _ _ _ _ _ _ a (c .if1 .taken))
+ended : tie.Need-skip-requires
+ended c κs = let start = c .before .before .before .before in (start .pre .0, start .pre .3, right-at _ _ _ _ _ _ (start .pre .4))
 
-asked : tie.Need-skip-requires
+asked : tie.Need-arc-to-requires
 asked c κs =
-    let start = c .before .before .before .before .before .before .before .before in
-    (start .pre .0, start .pre .3, right-at _ _ _ _ _ _ (start .pre .4))
-
-asked-2 : tie.Need-may-reach-requires
-asked-2 c κs =
-    let start = c .before .before .before .before .before .before .before .before .before in
-    (start .pre .0, start .pre .2, start .pre .3, to-walk _ _ _ _ _ _ (start .pre .4) (c .before .if1 .left) _ (c .skip .ensures))
-
-walked : tie.Need-returns-2
-walked c a = arc-walked _ _ _ _ _ _ a (c .before .before .if1 .left) _ (c .before .skip .ensures) _ (c .may-reach .ensures)
-
--- the two places lie within the nodes
-module _ (c : tie.Start) where
-  right-within : c .args .right < length (c .args .nodes .now)
-  right-within = term-within _ _ _ (right-at _ _ _ _ _ _ (c .pre .4))
-
-  left-within : getD (c .args .starts .now) (2 * c .args .other) 0 < length (c .args .nodes .now)
-  left-within = term-within _ _ _ (left-at _ _ _ _ _ _ (c .pre .4))
+    let start = c .before .before .before .before .before in
+    (start .pre .0, start .pre .1, start .pre .2, start .pre .3, c .skip .ensures, start .pre .4)
 
 pub arc-from-spec : {M : Type 1} → statement M
-arc-from-spec =
-    tie.close
-    (tie.spec
-    (λ c. omega (arith, other-small _ _ _ _ _ _ (c .before .before .before .before .pre .4)))
-    (λ c. omega (arith, other-small _ _ _ _ _ _ (c .before .before .before .before .pre .4)))
-    (λ c. omega (arith, other-small _ _ _ _ _ _ (c .before .before .before .before .before .pre .4)))
-    (λ c. omega (arith, c .shared-slice-known5 .given (2 * c .before .before .before .before .before .args .other)))
-    (λ c. right-within (c .before .before .before .before .before .before))
-    (λ c. left-within (c .before .before .before .before .before .before .before))
-    no-root
-    asked
-    (λ c. omega (arith, right-within (c .before .before .before .before .before .before .before .before .before)))
-    (λ c. omega (arith, left-within (c .before .before .before .before .before .before .before .before .before)))
-    asked-2
-    walked)
+arc-from-spec = tie.close (tie.spec ended asked (λ c a. c .arc-to .ensures a))
