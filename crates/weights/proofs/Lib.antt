@@ -6,3 +6,8 @@ pub mod Working
 pub mod Arguments
 pub mod Weighing
 pub mod Gathering
+pub mod Stacked
+pub mod Bounds
+pub mod Visiting
+pub mod Siding
+pub mod Spreading

@@ -2,10 +2,11 @@
 -- of it; no promise to a user does.
 use mathlib.Core.Path.{_≡_}
 use mathlib.Core.Bool.{Bool, true, false, _||_, not, cond}
-use mathlib.Core.List.{List, [], _∷_}
-use Prim.Native.Nat.{ℕ, zero, suc, _+_, _*_, _≤_, _<_}
+use mathlib.Core.List.{List, [], _∷_, _++_}
+use Prim.Native.Nat.{ℕ, zero, suc, _+_, _*_, _-_, _≤_, _<_}
+use lib.Dec.{eqb}
 use lib.ListN.{length, getD, set, take}
-use Rattle.rewriting.specs.Terms.{Tree, var, app, nil, cons, Rule, System, is-term}
+use Rattle.rewriting.specs.Terms.{Tree, var, app, nil, cons, Rule, System, is-list, is-term, well, width}
 use Rattle.rewriting.specs.Systems.{is-app, variables-below}
 use Rattle.terms.specs.Sides.{flat}
 use Rattle.terms.specs.Kept.{Kept}
@@ -71,7 +72,7 @@ pub record Parts (n : ℕ) (y : Polynomial) : Type 0 where
   pub coefficients-small : (v : ℕ) → v < 16 → getD (y .coefficients) v 0 ≤ n * most-part
   pub sixteen : length (y .coefficients) ≡ 16
 
--- THE QUICK WAY gathers the coefficients of a polynomial in sums. Its total is its value where every variable is 1, which no
+-- THE QUICK WAY adds up the coefficients of a polynomial in sums. Its total is its value where every variable is 1, which no
 -- constant and no coefficient exceeds.
 unfoldable pub total-of : Polynomial → ℕ
 total-of x = value-of x (λ v. 1)
@@ -81,13 +82,66 @@ pub record Room (n : ℕ) (sums : List ℕ) : Type 0 where
   pub long : length sums ≡ 16
   pub small : (v : ℕ) → v < 16 → getD sums v 0 ≤ n * 4294967296
 
--- what was found of a term no node of which passes the limit: the total and the constant of its polynomial, and the sums before
--- and after `factor` times its coefficients were added
-pub record Gathered (root ws : List Weight) (t : Tree) (factor total constant : ℕ) (before after : List ℕ) : Type 0 where
+-- THE STACKS of the quick way: the terms still to come each have a factor and a bound's factor, the next one's on top
+
+-- a weight that a bound is multiplied by: at least 1, so that what stands under a weight 0 counts too
+unfoldable pub lifted : ℕ → ℕ
+lifted w = cond (eqb w 0) 1 w
+
+unfoldable pub lifted-sum : List Weight → (symbol i : ℕ) → List ℕ → ℕ
+lifted-sum ws f i [] = 0
+lifted-sum ws f i (b ∷ bs) = lifted (weight ws f i) * b + lifted-sum ws f (suc i) bs
+
+-- the bound of a term: its value where every variable is 1 and no weight of an argument is below 1; one for each term of a list
+unfoldable pub term-bounds : List Weight → Tree → List ℕ
+term-bounds ws (var v) = 1 ∷ []
+term-bounds ws (app f ts) = (weight ws f 0 + lifted-sum ws f 1 (term-bounds ws ts)) ∷ []
+term-bounds ws nil = []
+term-bounds ws (cons t ts) = term-bounds ws t ++ term-bounds ws ts
+
+-- y, and each polynomial times its factor, the first one's on top of the n factors
+unfoldable pub stacked : (factors : List ℕ) → (n : ℕ) → List Polynomial → Polynomial → Polynomial
+stacked fs n [] y = y
+stacked fs n (x ∷ xs) y = stacked fs (n - 1) xs (added (getD fs (n - 1) 0) x y)
+
+-- the same of bounds
+unfoldable pub stacked-bound : (factors : List ℕ) → (n : ℕ) → List ℕ → ℕ → ℕ
+stacked-bound gs n [] t = t
+stacked-bound gs n (b ∷ bs) t = stacked-bound gs (n - 1) bs (t + getD gs (n - 1) 0 * b)
+
+-- n factors, none above its bound's, and no bound's above the limit
+pub record Stacks (n : ℕ) (factors bounds : List ℕ) : Type 0 where
+  pub factors-long : length factors ≡ 32
+  pub bounds-long : length bounds ≡ 32
+  pub below : (k : ℕ) → k < n → getD factors k 0 ≤ getD bounds k 0
+  pub some : (k : ℕ) → k < n → 1 ≤ getD bounds k 0
+  pub within : (k : ℕ) → k < n → getD bounds k 0 ≤ 4294967295
+
+-- the factors of a symbol's m arguments were put on top of n others, the first argument's uppermost
+pub record Pushed (table : List ℕ) (f m factor bound n : ℕ) (fs gs fs' gs' : List ℕ) : Type 0 where
+  pub new-factors : (k : ℕ) → k < m → getD fs' (n + (m - 1 - k)) 0 ≡ factor * getD table (9 * f + 1 + k) 0
+  pub new-bounds : (k : ℕ) → k < m → getD gs' (n + (m - 1 - k)) 0 ≡ bound * lifted (getD table (9 * f + 1 + k) 0)
+  pub old-factors : (k : ℕ) → k < n → getD fs' k 0 ≡ getD fs k 0
+  pub old-bounds : (k : ℕ) → k < n → getD gs' k 0 ≡ getD gs k 0
+
+-- n terms over some system are kept at a place, in at most 32 nodes
+pub record Coming (arities nodes : List ℕ) (at n : ℕ) : Type 0 where
+  pub system : System
+  pub terms : Tree
+  pub arities-are : take (length (system .arities)) arities ≡ system .arities
+  pub arities-few : length (system .arities) ≤ 64
+  pub arities-small : (f : ℕ) → f < length (system .arities) → getD (system .arities) f 0 ≤ 8
+  pub list : is-list terms ≡ true
+  pub is-well : well system terms ≡ true
+  pub many : width terms ≡ n
+  pub kept : Kept nodes at (flat terms)
+  pub small : variables-below 16 terms ≡ true
+  pub fits : length (flat terms) ≤ 32
+
+-- what was found of a term by sums that were 0: no node of it passes the limit, and its polynomial
+pub record Spread-as (root ws : List Weight) (t : Tree) (constant : ℕ) (sums : List ℕ) : Type 0 where
   pub not-over : rooted-over root ws t ≡ false
-  pub total-is : total ≡ total-of (rooted root ws t)
-  pub constant-is : constant ≡ rooted root ws t .constant
-  pub sums-are : after ≡ scaled-sum factor (rooted root ws t .coefficients) before
+  pub is : polynomial constant sums ≡ rooted root ws t
 
 -- what a rule or a pair is found to be: over the limit, or that its sides compare as they must, or not
 unfoldable pub verdict : (passes holds : Bool) → Verdict

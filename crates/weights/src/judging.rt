@@ -14,20 +14,40 @@ pub fn judge_rule(arities: &[u8], table: &[u16], nodes: &[u8], left: usize, righ
     requires { ⌜ (length (now arities) ≡ 64) × (length (now table) ≡ 576) × (length (now nodes) ≤ 65536) × Weighable (now arities) (now nodes) left 32 × Weighable (now arities) (now nodes) right 32 ⌝ }
     ensures { λ r. ⌜ ((l : Weighable (now (arities .entry)) (now (nodes .entry)) left 32) (m : Weighable (now (arities .entry)) (now (nodes .entry)) right 32) (ws ms : List Weight) → Table-is (now (table .entry)) ws → r ≡ verdict (rule-over (record { weights = ws; marked = ms }) (record { left = l .term; right = m .term })) (not (rule-rises (record { weights = ws; marked = ms }) (record { left = l .term; right = m .term })))) ⌝ }
 {
+    let mut factors = [0u64; 32];
+    let mut bounds = [0u64; 32];
     let mut x = [0u64; 16];
-    let l = crate::quick::gather(arities, table, table, nodes, left, 32, 1, &mut x);
+    let l = crate::stack::side(
+        arities,
+        table,
+        table,
+        nodes,
+        left,
+        &mut factors,
+        &mut bounds,
+        &mut x,
+    );
     if !l.through {
         return crate::exact::judge_rule(arities, table, nodes, left, right);
     }
     let mut y = [0u64; 16];
-    let r = crate::quick::gather(arities, table, table, nodes, right, 32, 1, &mut y);
+    let r = crate::stack::side(
+        arities,
+        table,
+        table,
+        nodes,
+        right,
+        &mut factors,
+        &mut bounds,
+        &mut y,
+    );
     if !r.through {
         return crate::exact::judge_rule(arities, table, nodes, left, right);
     }
     if l.constant < r.constant {
         return Verdict::Fails;
     }
-    if crate::quick::all_at_least(&x, &y) {
+    if crate::stack::all_at_least(&x, &y) {
         return Verdict::Holds;
     }
     Verdict::Fails
@@ -45,20 +65,40 @@ pub fn judge_call(
     requires { ⌜ (length (now arities) ≡ 64) × (length (now marked) ≡ 576) × (length (now table) ≡ 576) × (length (now nodes) ≤ 65536) × Applied (now arities) (now nodes) left × Applied (now arities) (now nodes) right ⌝ }
     ensures { λ r. ⌜ ((l : Applied (now (arities .entry)) (now (nodes .entry)) left) (m : Applied (now (arities .entry)) (now (nodes .entry)) right) (ws ms : List Weight) → Table-is (now (table .entry)) ws → Table-is (now (marked .entry)) ms → r ≡ verdict (call-over (record { weights = ws; marked = ms }) (record { left = l .side .term; right = m .side .term })) (call-falls (record { weights = ws; marked = ms }) (record { left = l .side .term; right = m .side .term }))) ⌝ }
 {
+    let mut factors = [0u64; 32];
+    let mut bounds = [0u64; 32];
     let mut x = [0u64; 16];
-    let l = crate::quick::gather(arities, marked, table, nodes, left, 32, 1, &mut x);
+    let l = crate::stack::side(
+        arities,
+        marked,
+        table,
+        nodes,
+        left,
+        &mut factors,
+        &mut bounds,
+        &mut x,
+    );
     if !l.through {
         return crate::exact::judge_call(arities, marked, table, nodes, left, right);
     }
     let mut y = [0u64; 16];
-    let r = crate::quick::gather(arities, marked, table, nodes, right, 32, 1, &mut y);
+    let r = crate::stack::side(
+        arities,
+        marked,
+        table,
+        nodes,
+        right,
+        &mut factors,
+        &mut bounds,
+        &mut y,
+    );
     if !r.through {
         return crate::exact::judge_call(arities, marked, table, nodes, left, right);
     }
     if l.constant <= r.constant {
         return Verdict::Fails;
     }
-    if crate::quick::all_at_least(&x, &y) {
+    if crate::stack::all_at_least(&x, &y) {
         return Verdict::Holds;
     }
     Verdict::Fails

@@ -1,60 +1,56 @@
 -- `weights::judging::judge_call` meets its contract: both sides are rooted by the weights of the tuple symbols.
 use mathlib.Core.Path.{sym, _∙_}
 use mathlib.Core.Bool.{true, false}
-use native.Mathlib.Omega.{arith}
 use borrow.Author.Needs.{needs}
 use borrow.Author.Tests.{not-false}
 use Rattle.polynomials.specs.Polynomials.{greater}
 use Rattle.weights.specs.Working.{verdict}
 use Rattle.weights.proofs.Working.{as-call}
-use Rattle.weights.proofs.Gathering.{no-room, sums-verdict, not-above, then-greater}
+use Rattle.weights.proofs.Gathering.{not-above, then-greater}
+use Rattle.weights.proofs.Siding.{spread-verdict}
 use Rattle.weights.proofs.judging.judge_call.Statement.{statement}
 use Rattle.weights.proofs.judging.judge_call.Tie as tie
 
--- the left side, and the right one
-gather-left : tie.Need-gather-requires
-gather-left c κs = let p = c .before .before .before .before .before .pre in (p .0, p .1, p .2, p .3, omega arith, no-room _, p .4 .side)
-
-gather-right : tie.Need-gather-requires-2
-gather-right c κs = let p = c .before .before .before .before .before .before .before .before .before .before .pre in (p .0, p .1, p .2, p .3, omega arith, no-room _, p .5 .side)
-
--- both were gathered: the constants tell, or else the sums
+-- both sides were spread: the constants tell, or else the sums
 returns-3 : tie.Need-returns-3
 unfolding verdict
 returns-3 c = λ l m ws ms x y.
-    let both = c .before in
+    let both = c .before .before .before in
     let second = both .before .before .before .before .before in
-    let first = second .before .before .before .before .before in
+    let through = second .before .before .before .before in
+    let first = through .before .before .before .before .before in
     as-call _ _ _ _ l m ws ms _
-    (sums-verdict ms ws greater _ _ _ _ _ _ _ _
-    (first .gather .ensures .1 .1 (l .side) ms ws y x (not-false _ (second .before .before .if1 .left)))
-    (second .gather2 .ensures .1 .1 (m .side) ms ws y x (not-false _ (both .before .before .if2 .left)))
+    (spread-verdict ms ws greater _ _ _ _ _ _
+    (first .side .ensures .1 (not-false _ (through .if1 .left)) (l .side) ms ws y x)
+    (second .side2 .ensures .1 (not-false _ (both .if2 .left)) (m .side) ms ws y x)
     false
     (not-above _ _ _ _ (c .if3 .taken)))
 
 returns-4 : tie.Need-returns-4
 unfolding verdict
 returns-4 c = λ l m ws ms x y.
-    let both = c .before .before .before .before .before in
+    let both = c .before .before .before .before .before .before .before in
     let second = both .before .before .before .before .before in
-    let first = second .before .before .before .before .before in
+    let through = second .before .before .before .before in
+    let first = through .before .before .before .before .before in
     as-call _ _ _ _ l m ws ms _
-    (sums-verdict ms ws greater _ _ _ _ _ _ _ _
-    (first .gather .ensures .1 .1 (l .side) ms ws y x (not-false _ (second .before .before .if1 .left)))
-    (second .gather2 .ensures .1 .1 (m .side) ms ws y x (not-false _ (both .before .before .if2 .left)))
+    (spread-verdict ms ws greater _ _ _ _ _ _
+    (first .side .ensures .1 (not-false _ (through .if1 .left)) (l .side) ms ws y x)
+    (second .side2 .ensures .1 (not-false _ (both .if2 .left)) (m .side) ms ws y x)
     true
     (then-greater _ _ _ _ (c .before .before .before .before .if3 .left) true (sym (c .before .all-at-least .ensures) ∙ c .if4 .taken)))
 
 returns-5 : tie.Need-returns-5
 unfolding verdict
 returns-5 c = λ l m ws ms x y.
-    let both = c .before .before .before .before .before in
+    let both = c .before .before .before .before .before .before .before in
     let second = both .before .before .before .before .before in
-    let first = second .before .before .before .before .before in
+    let through = second .before .before .before .before in
+    let first = through .before .before .before .before .before in
     as-call _ _ _ _ l m ws ms _
-    (sums-verdict ms ws greater _ _ _ _ _ _ _ _
-    (first .gather .ensures .1 .1 (l .side) ms ws y x (not-false _ (second .before .before .if1 .left)))
-    (second .gather2 .ensures .1 .1 (m .side) ms ws y x (not-false _ (both .before .before .if2 .left)))
+    (spread-verdict ms ws greater _ _ _ _ _ _
+    (first .side .ensures .1 (not-false _ (through .if1 .left)) (l .side) ms ws y x)
+    (second .side2 .ensures .1 (not-false _ (both .if2 .left)) (m .side) ms ws y x)
     false
     (then-greater _ _ _ _ (c .before .before .before .before .if3 .left) false (sym (c .before .all-at-least .ensures) ∙ c .if4 .left)))
 
@@ -63,11 +59,15 @@ judge-call-spec =
     tie.close
     (tie.spec
     (λ c. search needs)
-    gather-left
+    (λ c. search needs)
+    (λ c. search needs)
+    (λ c κs. search needs)
     (λ c κs. search needs)
     (λ c. search needs)
     (λ c. search needs)
-    gather-right
+    (λ c. search needs)
+    (λ c. search needs)
+    (λ c κs. search needs)
     (λ c κs. search needs)
     (λ c. search needs)
     returns-3
