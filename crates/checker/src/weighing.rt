@@ -140,7 +140,8 @@ pub fn judge_rules(
     Verdict::Holds
 }
 
-// The pairs whose records stand from record `from` on: over if one is, else failing if one does not fall.
+// The pairs whose records stand from record `from` on: over if one is, else failing if one does not fall. The left side is worked
+// out once for consecutive pairs of a rule.
 pub fn judge_pairs(
     certificate: &[u8],
     from: usize,
@@ -156,6 +157,13 @@ pub fn judge_pairs(
     requires { ⌜ (length (now certificate) % 8 ≡ 0) × (length (now certificate) ≤ 24576) × Kept-pack rules (now arities) (now starts) (now nodes) (now marks) × (length (now marked) ≡ 576) × (length (now table) ≡ 576) × ((p : System) × (symbols : ℕ) × (qs : List Pair) × Stored p symbols rules (now arities) (now starts) (now nodes) (now marks) × All-pairs p qs × Pairs-at (now certificate) from qs × (length qs ≡ count)) ⌝ }
     ensures { λ r. ⌜ ((p : System) (symbols : ℕ) (qs : List Pair) (ws ms : List Weight) → Stored p symbols rules (now (arities .entry)) (now (starts .entry)) (now (nodes .entry)) (now (marks .entry)) → All-pairs p qs → Pairs-at (now (certificate .entry)) from qs → length qs ≡ count → Table-is (now (table .entry)) ws → Table-is (now (marked .entry)) ms → r ≡ verdict (any (call-over (record { weights = ws; marked = ms })) (calls p qs)) (is-none (without (call-falls (record { weights = ws; marked = ms })) (calls p qs)))) ⌝ }
 {
+    let mut known = weights::stack::Spreading {
+        through: false,
+        constant: 0,
+        bound: 0,
+    };
+    let mut sums = [0u64; 16];
+    let mut last = 65536;
     let mut failed = false;
     let mut i = 0;
     while i < count {
@@ -163,7 +171,20 @@ pub fn judge_pairs(
         let rule = r.a as usize;
         let left = starts[2 * rule] as usize;
         let right = starts[2 * rule + 1] as usize + r.b as usize;
-        match weights::judging::judge_call(arities, marked, table, nodes, left, right) {
+        if rule != last {
+            known = weights::judging::left_side(arities, marked, table, nodes, left, &mut sums);
+            last = rule;
+        }
+        match weights::judging::judge_call(
+            arities,
+            marked,
+            table,
+            nodes,
+            left,
+            right,
+            known,
+            &sums,
+        ) {
             Verdict::Over => {
                 return Verdict::Over;
             }

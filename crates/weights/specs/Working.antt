@@ -143,6 +143,11 @@ pub record Spread-as (root ws : List Weight) (t : Tree) (constant : ℕ) (sums :
   pub not-over : rooted-over root ws t ≡ false
   pub is : polynomial constant sums ≡ rooted root ws t
 
+-- what is known of the left side kept at `left`, if the quick way went through
+unfoldable pub Left-known : (arities nodes marked table : List ℕ) (left : ℕ) → (through : Bool) → (constant : ℕ) → (sums : List ℕ) → Type 0
+Left-known arities nodes marked table left through constant sums =
+    through ≡ true → (w : Applied arities nodes left) (ws ms : List Weight) → Table-is table ws → Table-is marked ms → Spread-as ms ws (w .side .term) constant sums
+
 -- what a rule or a pair is found to be: over the limit, or that its sides compare as they must, or not
 unfoldable pub verdict : (passes holds : Bool) → Verdict
 verdict passes holds = cond passes Over (cond holds Holds Fails)

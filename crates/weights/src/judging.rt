@@ -1,13 +1,14 @@
 // One rule, and one pair, under the weights: the quick way where it goes through.
 use crate::Verdict;
+use crate::stack::Spreading;
 ghost use mathlib.Core.Path.{_≡_};
 ghost use mathlib.Core.Bool.{not};
 ghost use mathlib.Core.List.{List};
-ghost use lib.ListN.{length};
+ghost use lib.ListN.{length, replicate};
 ghost use Prim.Native.Nat.{_≤_};
 ghost use Rattle.polynomials.specs.Polynomials.{Weight};
 ghost use Rattle.polynomials.specs.Judging.{rule-over, rule-rises, call-over, call-falls};
-ghost use Rattle.weights.specs.Working.{Table-is, Weighable, Applied, verdict};
+ghost use Rattle.weights.specs.Working.{Table-is, Weighable, Applied, Left-known, verdict};
 
 // The rule whose sides are kept at `left` and `right`: holds if its left is at least its right.
 pub fn judge_rule(arities: &[u8], table: &[u16], nodes: &[u8], left: usize, right: usize) -> Verdict
@@ -53,22 +54,34 @@ pub fn judge_rule(arities: &[u8], table: &[u16], nodes: &[u8], left: usize, righ
     Verdict::Fails
 }
 
-// The pair whose sides are kept at `left` and `right`, their roots being tuple symbols: holds if its left is greater.
-pub fn judge_call(
+// Sets the sums to 0.
+fn clear(sums: &mut [u64])
+    ensures { λ _. ⌜ now (sums .exit) ≡ replicate (length (now (sums .entry))) 0 ⌝ }
+{
+    let mut v = 0;
+    while v < sums.len() {
+        sums[v] = 0;
+        v = v + 1;
+    }
+}
+
+// The left side of a pair, by the quick way: its coefficients in the sums, and its constant.
+pub fn left_side(
     arities: &[u8],
     marked: &[u16],
     table: &[u16],
     nodes: &[u8],
     left: usize,
-    right: usize,
-) -> Verdict
-    requires { ⌜ (length (now arities) ≡ 64) × (length (now marked) ≡ 576) × (length (now table) ≡ 576) × (length (now nodes) ≤ 65536) × Applied (now arities) (now nodes) left × Applied (now arities) (now nodes) right ⌝ }
-    ensures { λ r. ⌜ ((l : Applied (now (arities .entry)) (now (nodes .entry)) left) (m : Applied (now (arities .entry)) (now (nodes .entry)) right) (ws ms : List Weight) → Table-is (now (table .entry)) ws → Table-is (now (marked .entry)) ms → r ≡ verdict (call-over (record { weights = ws; marked = ms }) (record { left = l .side .term; right = m .side .term })) (call-falls (record { weights = ws; marked = ms }) (record { left = l .side .term; right = m .side .term }))) ⌝ }
+    sums: &mut [u64],
+) -> Spreading
+    requires { ⌜ (length (now arities) ≡ 64) × (length (now marked) ≡ 576) × (length (now table) ≡ 576) × (length (now nodes) ≤ 65536) × (length (now sums) ≡ 16) × Applied (now arities) (now nodes) left ⌝ }
+    ensures long { λ _. ⌜ length (now (sums .exit)) ≡ 16 ⌝ }
+    ensures known { λ r. ⌜ Left-known (now (arities .entry)) (now (nodes .entry)) (now (marked .entry)) (now (table .entry)) left (r .through) (r .constant) (now (sums .exit)) ⌝ }
 {
+    clear(sums);
     let mut factors = [0u64; 32];
     let mut bounds = [0u64; 32];
-    let mut x = [0u64; 16];
-    let l = crate::stack::side(
+    crate::stack::side(
         arities,
         marked,
         table,
@@ -76,11 +89,30 @@ pub fn judge_call(
         left,
         &mut factors,
         &mut bounds,
-        &mut x,
-    );
-    if !l.through {
+        sums,
+    )
+}
+
+// The pair whose sides are kept at `left` and `right`, their roots being tuple symbols: holds if its left is greater. `known` and
+// `sums` are what `left_side` answered and left.
+pub fn judge_call(
+    arities: &[u8],
+    marked: &[u16],
+    table: &[u16],
+    nodes: &[u8],
+    left: usize,
+    right: usize,
+    known: Spreading,
+    sums: &[u64],
+) -> Verdict
+    requires { ⌜ (length (now arities) ≡ 64) × (length (now marked) ≡ 576) × (length (now table) ≡ 576) × (length (now nodes) ≤ 65536) × Applied (now arities) (now nodes) left × Applied (now arities) (now nodes) right × (length (now sums) ≡ 16) × Left-known (now arities) (now nodes) (now marked) (now table) left (known .through) (known .constant) (now sums) ⌝ }
+    ensures { λ r. ⌜ ((l : Applied (now (arities .entry)) (now (nodes .entry)) left) (m : Applied (now (arities .entry)) (now (nodes .entry)) right) (ws ms : List Weight) → Table-is (now (table .entry)) ws → Table-is (now (marked .entry)) ms → r ≡ verdict (call-over (record { weights = ws; marked = ms }) (record { left = l .side .term; right = m .side .term })) (call-falls (record { weights = ws; marked = ms }) (record { left = l .side .term; right = m .side .term }))) ⌝ }
+{
+    if !known.through {
         return crate::exact::judge_call(arities, marked, table, nodes, left, right);
     }
+    let mut factors = [0u64; 32];
+    let mut bounds = [0u64; 32];
     let mut y = [0u64; 16];
     let r = crate::stack::side(
         arities,
@@ -95,10 +127,10 @@ pub fn judge_call(
     if !r.through {
         return crate::exact::judge_call(arities, marked, table, nodes, left, right);
     }
-    if l.constant <= r.constant {
+    if known.constant <= r.constant {
         return Verdict::Fails;
     }
-    if crate::stack::all_at_least(&x, &y) {
+    if crate::stack::all_at_least(sums, &y) {
         return Verdict::Holds;
     }
     Verdict::Fails

@@ -2,7 +2,7 @@
 pub mod arithmetic;
 mod exact;
 pub mod judging;
-mod stack;
+pub mod stack;
 
 use polynomials::Polynomial;
 ghost use mathlib.Core.Path.{_≡_};

@@ -1,13 +1,14 @@
--- `checker::weighing::judge_pairs` meets its contract. The loop's invariant: the pairs from pair i on are left to judge.
-use mathlib.Core.Path.{_≡_, _∙_}
-use mathlib.Core.Bool.{Bool, true, false}
+-- `checker::weighing::judge_pairs` meets its contract. The loop's invariant: the pairs from pair i on are left to judge,
+-- and what is known of the left side of rule `last` is kept.
+use mathlib.Core.Path.{_≡_, refl, sym, _∙_}
+use mathlib.Core.Bool.{Bool, true, false, false≢true}
 use mathlib.Core.Logic.{⊎-elim}
 use mathlib.Core.List.{List, [], _∷_}
 use Prim.Native.Nat.{ℕ, _+_, _*_, _-_, _/_, _≤_, _<_}
 use native.Mathlib.Numerals.{add-one}
 use native.Mathlib.Omega.{arith}
 use borrow.Author.Needs.{needs}
-use lib.ListN.{length, getD, drop, drop-of-length-le}
+use lib.ListN.{length, getD, drop, replicate, drop-of-length-le}
 use lib.Seq.{drop-cons}
 use Rattle.rewriting.specs.Terms.{System}
 use Rattle.rewriting.specs.Pairs.{Pair, is-pair}
@@ -15,11 +16,12 @@ use Rattle.records.specs.declared.Record.{Record}
 use Rattle.records.specs.Records.{record-at}
 use Rattle.pack_reader.specs.Stored.{Stored}
 use Rattle.pairs.specs.Listing.{a-pair, pair-record}
+use Rattle.weights.specs.declared.stack.Spreading.{Spreading}
 use Rattle.weights.specs.declared.Verdict.{Verdict}
 use Rattle.weights.specs.declared.Verdict.the-variants.{Over, Fails, Holds}
 use Rattle.polynomials.specs.Polynomials.{Weight, Weighting}
 use Rattle.polynomials.specs.Judging.{call-over, call-falls}
-use Rattle.weights.specs.Working.{Table-is, Applied, verdict}
+use Rattle.weights.specs.Working.{Table-is, Applied, Left-known, verdict}
 use Rattle.judging.specs.Judge.{call, calls}
 use Rattle.partition.specs.Working.{All-pairs}
 use Rattle.checker.specs.Working.{Pairs-at}
@@ -33,14 +35,32 @@ use Rattle.checker.proofs.weighing.judge_pairs.Tie as tie
 abbrev Pairs-left : System → List Pair → (weights marked : List Weight) → (i : ℕ) → (failed : Bool) → Type 0
 Pairs-left p qs ws vs i failed = To-judge (call-over (weighting ws vs)) (calls-hold (weighting ws vs)) (calls p qs) (calls p (drop i qs)) failed
 
+-- what is known of the left side of a rule
+record Left-kept (arities nodes marked table starts : List ℕ) (rule : ℕ) (known : Spreading) (sums : List ℕ) : Type 0 where
+  long : length sums ≡ 16
+  is-known : Left-known arities nodes marked table (getD starts (2 * rule) 0) (known .through) (known .constant) sums
+
+-- nothing, where the quick way did not go through
+none-kept : (ar ns vs ts ss : List ℕ) (rule : ℕ) (known : Spreading) → known .through ≡ false → Left-kept ar ns vs ts ss rule known (replicate 16 0)
+unfolding Left-known
+none-kept ar ns vs ts ss rule known e =
+    record { long = refl; is-known = λ through. absurd (false≢true (sym e ∙ through)) }
+
+-- the same of equal ones
+kept-as :
+    (ar ns vs ts ss : List ℕ) {rule rule' : ℕ} {known known' : Spreading} {sums sums' : List ℕ} → rule ≡ rule' → known ≡ known' → sums ≡ sums' →
+    Left-kept ar ns vs ts ss rule' known' sums' → Left-kept ar ns vs ts ss rule known sums
+kept-as ar ns vs ts ss e f g k = rw (e, f, g) k
+
 abbrev Inv-loop : tie.InvT-loop
-Inv-loop certificate from count arities marked table starts nodes marks rules failed₀ i₀ failed i =
+Inv-loop certificate from count arities marked table starts nodes marks rules known₀ sums₀ last₀ failed₀ i₀ known sums last failed i =
     (i ≤ count)
+    × Left-kept arities nodes marked table starts last known sums
     × ((p : System) (symbols : ℕ) (qs : List Pair) (ws vs : List Weight) → Stored p symbols rules arities starts nodes marks → All-pairs p qs →
     Pairs-at certificate from qs → length qs ≡ count → Table-is table ws → Table-is marked vs → Pairs-left p qs ws vs i failed)
 
 abbrev μ-loop : tie.MeasureT-loop
-μ-loop certificate from count arities marked table starts nodes marks rules failed₀ i₀ failed i = count - i
+μ-loop certificate from count arities marked table starts nodes marks rules known₀ sums₀ last₀ failed₀ i₀ known sums last failed i = count - i
 
 -- the record of pair i
 module _ {cert : List ℕ} {from : ℕ} {qs : List Pair} (there : Pairs-at cert from qs) (i : ℕ) (h : i < length qs) where
@@ -126,43 +146,81 @@ its-rule c =
     let known = start turn .pre .5 in
     in-rules (known .5) (turn .before .loop .i) (there-is turn) (c .record-at .ensures) (known .3) (known .4)
 
-requires : tie.Need-judge-call-requires Inv-loop μ-loop
-requires c κs =
-    let read = c .before .before .before .before in
+left-requires : tie.Need-left-side-requires Inv-loop μ-loop
+left-requires c κs =
+    let read = c .before .before .before .before .before .before in
     let turn = read .before in
-    let i = turn .before .loop .i in
+    let l = turn .before .loop in
     let pre = start turn .pre in
     let known = pre .5 in (
       pre .2 .arities-long,
       pre .3,
       pre .4,
       pre .2 .nodes-long,
+      l .inv .1 .long,
+      left-there (known .5) (l .i) (there-is turn) (read .record-at .ensures) (known .3) (known .4),
+    )
+
+-- after the branch the left side of the pair's rule is kept: it was worked out, or it was kept
+abbrev read-before : tie.Joined1 Inv-loop μ-loop → tie.After-record-at Inv-loop μ-loop
+read-before c = c .before .before .before .before .before
+
+last-is : (c : tie.Joined1 Inv-loop μ-loop) → c .if1 .last ≡ read-before c .record-at .result .a
+last-is c = ⊎-elim (λ z. z .6) (λ z. z .3 ∙ sym (z .0 .left)) (c .if1 .came)
+
+left-kept :
+    (c : tie.Joined1 Inv-loop μ-loop) → let a = start (read-before c .before) .args in
+    Left-kept (a .arities .now) (a .nodes .now) (a .marked .now) (a .table .now) (a .starts .now) (read-before c .record-at .result .a) (c .if1 .known) (c .if1 .sums)
+left-kept c =
+    let turn = read-before c .before in
+    let a = start turn .args in
+    ⊎-elim
+    (λ z. kept-as _ _ _ _ (a .starts .now) refl (z .4) (z .5) (record { long = z .2 .ensures .0; is-known = z .2 .ensures .1 }))
+    (λ z. kept-as _ _ _ _ _ (z .0 .left) (z .1) (z .2) (turn .before .loop .inv .1))
+    (c .if1 .came)
+
+requires : tie.Need-judge-call-requires Inv-loop μ-loop
+requires c κs =
+    let read = read-before (c .before) in
+    let turn = read .before in
+    let i = turn .before .loop .i in
+    let pre = start turn .pre in
+    let known = pre .5 in
+    let kept = left-kept (c .before) in (
+      pre .2 .arities-long,
+      pre .3,
+      pre .4,
+      pre .2 .nodes-long,
       left-there (known .5) i (there-is turn) (read .record-at .ensures) (known .3) (known .4),
       right-there (known .5) i (there-is turn) (read .record-at .ensures) (known .3) (known .4),
+      kept .long,
+      kept .is-known,
     )
 
 returns : tie.Need-returns Inv-loop μ-loop
 returns c =
     let called = c .before .before in
-    let read = called .before .before .before .before .before in
+    let read = read-before (called .before .before) in
     let turn = read .before in
     let l = turn .before .loop in
     λ p symbols qs ws vs s are there long t u.
     pair-over-limit there (l .i) (omega (arith, turn .loop-test .taken)) (read .record-at .ensures) s are ws vs
     (λ a b. called .judge-call .ensures a b ws vs t u)
-    (l .inv .1 p symbols qs ws vs s are there long t u)
+    (l .inv .2 p symbols qs ws vs s are there long t u)
     (c .enum-told .given .1)
 
 again : tie.Need-loop-again Inv-loop μ-loop
 again c =
     let called = c .before in
-    let read = called .before .before .before .before .before in
+    let joined = called .before .before in
+    let read = read-before joined in
     let turn = read .before in
     let l = turn .before .loop in (
       omega arith,
+      kept-as _ _ _ _ _ (last-is joined) refl refl (left-kept joined),
       λ p symbols qs ws vs s are there long t u.
           let h : l .i < length qs = omega (arith, turn .loop-test .taken) in
-          let left = l .inv .1 p symbols qs ws vs s are there long t u in
+          let left = l .inv .2 p symbols qs ws vs s are there long t u in
           ⊎-elim
           (λ z. rw (z .2) (pair-fails there (l .i) h (read .record-at .ensures) s are ws vs (λ a b. called .judge-call .ensures a b ws vs t u) left (z .1 .given .1)))
           (λ z. rw (z .2) (pair-holds there (l .i) h (read .record-at .ensures) s are ws vs (λ a b. called .judge-call .ensures a b ws vs t u) left (z .1 .given .1)))
@@ -175,7 +233,7 @@ judge-pairs-spec =
     (tie.spec
     Inv-loop
     μ-loop
-    (λ c. (omega arith, λ p symbols qs ws vs s are there long t u. none-judged _ _ _))
+    (λ c. (omega arith, none-kept _ _ _ _ _ _ _ refl, λ p symbols qs ws vs s are there long t u. none-judged _ _ _))
     (λ c. omega (arith, its-record c))
     (λ c. omega (arith, its-record c))
     (λ c κs. omega (arith, its-record c))
@@ -191,6 +249,9 @@ judge-pairs-spec =
     (λ c. omega (arith, c .shared-slice-known9 .given (2 * c .before .before .before .record-at .result .a + 1)))
     (λ c. search needs)
     (λ c. omega (arith, c .before .shared-slice-known9 .given (2 * c .before .before .before .before .record-at .result .a + 1)))
+    (λ c. search needs)
+    left-requires
+    (λ c. search (needs, left-kept (c .before) .long))
     requires
     (λ c. search needs)
     returns
@@ -202,8 +263,8 @@ judge-pairs-spec =
     (λ c.
     let l = c .before .before .loop in
     λ p symbols qs ws vs s are there long t u.
-    fails p qs ws vs (l .i) (l .inv .1 p symbols qs ws vs s are there long t u) (omega (arith, c .before .loop-test .left)) (c .if1 .taken))
+    fails p qs ws vs (l .i) (l .inv .2 p symbols qs ws vs s are there long t u) (omega (arith, c .before .loop-test .left)) (c .if2 .taken))
     (λ c.
     let l = c .before .before .loop in
     λ p symbols qs ws vs s are there long t u.
-    holds p qs ws vs (l .i) (l .inv .1 p symbols qs ws vs s are there long t u) (omega (arith, c .before .loop-test .left)) (c .if1 .left)))
+    holds p qs ws vs (l .i) (l .inv .2 p symbols qs ws vs s are there long t u) (omega (arith, c .before .loop-test .left)) (c .if2 .left)))
