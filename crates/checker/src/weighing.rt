@@ -118,12 +118,22 @@ pub fn judge_rules(
     requires { ⌜ Kept-pack rules (now arities) (now starts) (now nodes) (now marks) × (length (now table) ≡ 576) × ((p : System) × (symbols : ℕ) × Stored p symbols rules (now arities) (now starts) (now nodes) (now marks)) ⌝ }
     ensures { λ r. ⌜ ((p : System) (symbols : ℕ) (ws ms : List Weight) → Stored p symbols rules (now (arities .entry)) (now (starts .entry)) (now (nodes .entry)) (now (marks .entry)) → Table-is (now (table .entry)) ws → r ≡ verdict (any (rule-over (record { weights = ws; marked = ms })) (p .rules)) (not (any (rule-rises (record { weights = ws; marked = ms })) (p .rules)))) ⌝ }
 {
+    let mut factors = [0u64; 32];
+    let mut bounds = [0u64; 32];
     let mut failed = false;
     let mut i = 0;
     while i < rules {
         let left = starts[2 * i] as usize;
         let right = starts[2 * i + 1] as usize;
-        match weights::judging::judge_rule(arities, table, nodes, left, right) {
+        match weights::judging::judge_rule(
+            arities,
+            table,
+            nodes,
+            left,
+            right,
+            &mut factors,
+            &mut bounds,
+        ) {
             Verdict::Over => {
                 return Verdict::Over;
             }
@@ -163,6 +173,8 @@ pub fn judge_pairs(
         bound: 0,
     };
     let mut sums = [0u64; 16];
+    let mut factors = [0u64; 32];
+    let mut bounds = [0u64; 32];
     let mut last = 65536;
     let mut failed = false;
     let mut i = 0;
@@ -172,7 +184,16 @@ pub fn judge_pairs(
         let left = starts[2 * rule] as usize;
         let right = starts[2 * rule + 1] as usize + r.b as usize;
         if rule != last {
-            known = weights::judging::left_side(arities, marked, table, nodes, left, &mut sums);
+            known = weights::judging::left_side(
+                arities,
+                marked,
+                table,
+                nodes,
+                left,
+                &mut sums,
+                &mut factors,
+                &mut bounds,
+            );
             last = rule;
         }
         match weights::judging::judge_call(
@@ -184,6 +205,8 @@ pub fn judge_pairs(
             right,
             known,
             &sums,
+            &mut factors,
+            &mut bounds,
         ) {
             Verdict::Over => {
                 return Verdict::Over;

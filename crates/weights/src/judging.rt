@@ -10,38 +10,27 @@ ghost use Rattle.polynomials.specs.Polynomials.{Weight};
 ghost use Rattle.polynomials.specs.Judging.{rule-over, rule-rises, call-over, call-falls};
 ghost use Rattle.weights.specs.Working.{Table-is, Weighable, Applied, Left-known, verdict};
 
-// The rule whose sides are kept at `left` and `right`: holds if its left is at least its right.
-pub fn judge_rule(arities: &[u8], table: &[u16], nodes: &[u8], left: usize, right: usize) -> Verdict
-    requires { ⌜ (length (now arities) ≡ 64) × (length (now table) ≡ 576) × (length (now nodes) ≤ 65536) × Weighable (now arities) (now nodes) left 32 × Weighable (now arities) (now nodes) right 32 ⌝ }
+// The rule whose sides are kept at `left` and `right`: holds if its left is at least its right. `factors` and `bounds` are room for
+// the stacks, here and below: what stands in them does not matter.
+pub fn judge_rule(
+    arities: &[u8],
+    table: &[u16],
+    nodes: &[u8],
+    left: usize,
+    right: usize,
+    factors: &mut [u64],
+    bounds: &mut [u64],
+) -> Verdict
+    requires { ⌜ (length (now arities) ≡ 64) × (length (now table) ≡ 576) × (length (now nodes) ≤ 65536) × Weighable (now arities) (now nodes) left 32 × Weighable (now arities) (now nodes) right 32 × (length (now factors) ≡ 32) × (length (now bounds) ≡ 32) ⌝ }
     ensures { λ r. ⌜ ((l : Weighable (now (arities .entry)) (now (nodes .entry)) left 32) (m : Weighable (now (arities .entry)) (now (nodes .entry)) right 32) (ws ms : List Weight) → Table-is (now (table .entry)) ws → r ≡ verdict (rule-over (record { weights = ws; marked = ms }) (record { left = l .term; right = m .term })) (not (rule-rises (record { weights = ws; marked = ms }) (record { left = l .term; right = m .term })))) ⌝ }
 {
-    let mut factors = [0u64; 32];
-    let mut bounds = [0u64; 32];
     let mut x = [0u64; 16];
-    let l = crate::stack::side(
-        arities,
-        table,
-        table,
-        nodes,
-        left,
-        &mut factors,
-        &mut bounds,
-        &mut x,
-    );
+    let l = crate::stack::side(arities, table, table, nodes, left, factors, bounds, &mut x);
     if !l.through {
         return crate::exact::judge_rule(arities, table, nodes, left, right);
     }
     let mut y = [0u64; 16];
-    let r = crate::stack::side(
-        arities,
-        table,
-        table,
-        nodes,
-        right,
-        &mut factors,
-        &mut bounds,
-        &mut y,
-    );
+    let r = crate::stack::side(arities, table, table, nodes, right, factors, bounds, &mut y);
     if !r.through {
         return crate::exact::judge_rule(arities, table, nodes, left, right);
     }
@@ -73,24 +62,15 @@ pub fn left_side(
     nodes: &[u8],
     left: usize,
     sums: &mut [u64],
+    factors: &mut [u64],
+    bounds: &mut [u64],
 ) -> Spreading
-    requires { ⌜ (length (now arities) ≡ 64) × (length (now marked) ≡ 576) × (length (now table) ≡ 576) × (length (now nodes) ≤ 65536) × (length (now sums) ≡ 16) × Applied (now arities) (now nodes) left ⌝ }
+    requires { ⌜ (length (now arities) ≡ 64) × (length (now marked) ≡ 576) × (length (now table) ≡ 576) × (length (now nodes) ≤ 65536) × (length (now sums) ≡ 16) × Applied (now arities) (now nodes) left × (length (now factors) ≡ 32) × (length (now bounds) ≡ 32) ⌝ }
     ensures long { λ _. ⌜ length (now (sums .exit)) ≡ 16 ⌝ }
     ensures known { λ r. ⌜ Left-known (now (arities .entry)) (now (nodes .entry)) (now (marked .entry)) (now (table .entry)) left (r .through) (r .constant) (now (sums .exit)) ⌝ }
 {
     clear(sums);
-    let mut factors = [0u64; 32];
-    let mut bounds = [0u64; 32];
-    crate::stack::side(
-        arities,
-        marked,
-        table,
-        nodes,
-        left,
-        &mut factors,
-        &mut bounds,
-        sums,
-    )
+    crate::stack::side(arities, marked, table, nodes, left, factors, bounds, sums)
 }
 
 // The pair whose sides are kept at `left` and `right`, their roots being tuple symbols: holds if its left is greater. `known` and
@@ -104,15 +84,15 @@ pub fn judge_call(
     right: usize,
     known: Spreading,
     sums: &[u64],
+    factors: &mut [u64],
+    bounds: &mut [u64],
 ) -> Verdict
-    requires { ⌜ (length (now arities) ≡ 64) × (length (now marked) ≡ 576) × (length (now table) ≡ 576) × (length (now nodes) ≤ 65536) × Applied (now arities) (now nodes) left × Applied (now arities) (now nodes) right × (length (now sums) ≡ 16) × Left-known (now arities) (now nodes) (now marked) (now table) left (known .through) (known .constant) (now sums) ⌝ }
+    requires { ⌜ (length (now arities) ≡ 64) × (length (now marked) ≡ 576) × (length (now table) ≡ 576) × (length (now nodes) ≤ 65536) × Applied (now arities) (now nodes) left × Applied (now arities) (now nodes) right × (length (now sums) ≡ 16) × Left-known (now arities) (now nodes) (now marked) (now table) left (known .through) (known .constant) (now sums) × (length (now factors) ≡ 32) × (length (now bounds) ≡ 32) ⌝ }
     ensures { λ r. ⌜ ((l : Applied (now (arities .entry)) (now (nodes .entry)) left) (m : Applied (now (arities .entry)) (now (nodes .entry)) right) (ws ms : List Weight) → Table-is (now (table .entry)) ws → Table-is (now (marked .entry)) ms → r ≡ verdict (call-over (record { weights = ws; marked = ms }) (record { left = l .side .term; right = m .side .term })) (call-falls (record { weights = ws; marked = ms }) (record { left = l .side .term; right = m .side .term }))) ⌝ }
 {
     if !known.through {
         return crate::exact::judge_call(arities, marked, table, nodes, left, right);
     }
-    let mut factors = [0u64; 32];
-    let mut bounds = [0u64; 32];
     let mut y = [0u64; 16];
     let r = crate::stack::side(
         arities,
@@ -120,8 +100,8 @@ pub fn judge_call(
         table,
         nodes,
         right,
-        &mut factors,
-        &mut bounds,
+        factors,
+        bounds,
         &mut y,
     );
     if !r.through {

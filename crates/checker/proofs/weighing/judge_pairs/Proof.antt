@@ -1,6 +1,6 @@
 -- `checker::weighing::judge_pairs` meets its contract. The loop's invariant: the pairs from pair i on are left to judge,
 -- and what is known of the left side of rule `last` is kept.
-use mathlib.Core.Path.{_≡_, refl, sym, _∙_}
+use mathlib.Core.Path.{_≡_, refl, sym, ap, _∙_}
 use mathlib.Core.Bool.{Bool, true, false, false≢true}
 use mathlib.Core.Logic.{⊎-elim}
 use mathlib.Core.List.{List, [], _∷_}
@@ -53,14 +53,16 @@ kept-as :
 kept-as ar ns vs ts ss e f g k = rw (e, f, g) k
 
 abbrev Inv-loop : tie.InvT-loop
-Inv-loop certificate from count arities marked table starts nodes marks rules known₀ sums₀ last₀ failed₀ i₀ known sums last failed i =
+Inv-loop certificate from count arities marked table starts nodes marks rules known₀ sums₀ factors₀ bounds₀ last₀ failed₀ i₀ known sums factors bounds last failed i =
     (i ≤ count)
     × Left-kept arities nodes marked table starts last known sums
     × ((p : System) (symbols : ℕ) (qs : List Pair) (ws vs : List Weight) → Stored p symbols rules arities starts nodes marks → All-pairs p qs →
     Pairs-at certificate from qs → length qs ≡ count → Table-is table ws → Table-is marked vs → Pairs-left p qs ws vs i failed)
+    × (length factors ≡ 32)
+    × (length bounds ≡ 32)
 
 abbrev μ-loop : tie.MeasureT-loop
-μ-loop certificate from count arities marked table starts nodes marks rules known₀ sums₀ last₀ failed₀ i₀ known sums last failed i = count - i
+μ-loop certificate from count arities marked table starts nodes marks rules known₀ sums₀ factors₀ bounds₀ last₀ failed₀ i₀ known sums factors bounds last failed i = count - i
 
 -- the record of pair i
 module _ {cert : List ℕ} {from : ℕ} {qs : List Pair} (there : Pairs-at cert from qs) (i : ℕ) (h : i < length qs) where
@@ -148,7 +150,7 @@ its-rule c =
 
 left-requires : tie.Need-left-side-requires Inv-loop μ-loop
 left-requires c κs =
-    let read = c .before .before .before .before .before .before in
+    let read = c .before .before .before .before .before .before .before .before in
     let turn = read .before in
     let l = turn .before .loop in
     let pre = start turn .pre in
@@ -159,6 +161,8 @@ left-requires c κs =
       pre .2 .nodes-long,
       l .inv .1 .long,
       left-there (known .5) (l .i) (there-is turn) (read .record-at .ensures) (known .3) (known .4),
+      l .inv .3,
+      l .inv .4,
     )
 
 -- after the branch the left side of the pair's rule is kept: it was worked out, or it was kept
@@ -166,7 +170,7 @@ abbrev read-before : tie.Joined1 Inv-loop μ-loop → tie.After-record-at Inv-lo
 read-before c = c .before .before .before .before .before
 
 last-is : (c : tie.Joined1 Inv-loop μ-loop) → c .if1 .last ≡ read-before c .record-at .result .a
-last-is c = ⊎-elim (λ z. z .6) (λ z. z .3 ∙ sym (z .0 .left)) (c .if1 .came)
+last-is c = ⊎-elim (λ z. z .12) (λ z. z .5 ∙ sym (z .0 .left)) (c .if1 .came)
 
 left-kept :
     (c : tie.Joined1 Inv-loop μ-loop) → let a = start (read-before c .before) .args in
@@ -175,18 +179,28 @@ left-kept c =
     let turn = read-before c .before in
     let a = start turn .args in
     ⊎-elim
-    (λ z. kept-as _ _ _ _ (a .starts .now) refl (z .4) (z .5) (record { long = z .2 .ensures .0; is-known = z .2 .ensures .1 }))
+    (λ z. kept-as _ _ _ _ (a .starts .now) refl (z .8) (z .9) (record { long = z .4 .ensures .0; is-known = z .4 .ensures .1 }))
     (λ z. kept-as _ _ _ _ _ (z .0 .left) (z .1) (z .2) (turn .before .loop .inv .1))
+    (c .if1 .came)
+
+-- and the lent slices are as long as they were
+lent-long : (c : tie.Joined1 Inv-loop μ-loop) → (length (c .if1 .factors) ≡ 32) × (length (c .if1 .bounds) ≡ 32)
+lent-long c =
+    let inv = read-before c .before .before .loop .inv in
+    ⊎-elim
+    (λ z. let kept = z .4 .kept .1 .1 .1 .1 .1 .1 in (ap length (z .10) ∙ kept .0 ∙ inv .3, ap length (z .11) ∙ kept .1 .0 ∙ inv .4))
+    (λ z. (ap length (z .3) ∙ inv .3, ap length (z .4) ∙ inv .4))
     (c .if1 .came)
 
 requires : tie.Need-judge-call-requires Inv-loop μ-loop
 requires c κs =
-    let read = read-before (c .before) in
+    let joined = c .before .before .before in
+    let read = read-before joined in
     let turn = read .before in
     let i = turn .before .loop .i in
     let pre = start turn .pre in
     let known = pre .5 in
-    let kept = left-kept (c .before) in (
+    let kept = left-kept joined in (
       pre .2 .arities-long,
       pre .3,
       pre .4,
@@ -195,12 +209,14 @@ requires c κs =
       right-there (known .5) i (there-is turn) (read .record-at .ensures) (known .3) (known .4),
       kept .long,
       kept .is-known,
+      lent-long joined .0,
+      lent-long joined .1,
     )
 
 returns : tie.Need-returns Inv-loop μ-loop
 returns c =
-    let called = c .before .before in
-    let read = read-before (called .before .before) in
+    let called = c .before .before .before .before in
+    let read = read-before (called .before .before .before .before) in
     let turn = read .before in
     let l = turn .before .loop in
     λ p symbols qs ws vs s are there long t u.
@@ -209,10 +225,16 @@ returns c =
     (l .inv .2 p symbols qs ws vs s are there long t u)
     (c .enum-told .given .1)
 
+add-i : tie.Need-add-i Inv-loop μ-loop
+add-i c =
+    let turn = read-before (c .before .before .before .before .before .before .before) .before in
+    record { fits = omega (arith, turn .loop-test .taken, start turn .fits .count .fits) }
+
 again : tie.Need-loop-again Inv-loop μ-loop
 again c =
-    let called = c .before in
-    let joined = called .before .before in
+    let called = c .before .before .before in
+    let joined = called .before .before .before .before in
+    let kept = called .judge-call .kept .1 .1 .1 .1 .1 .1 .1 .1 in
     let read = read-before joined in
     let turn = read .before in
     let l = turn .before .loop in (
@@ -225,6 +247,8 @@ again c =
           (λ z. rw (z .2) (pair-fails there (l .i) h (read .record-at .ensures) s are ws vs (λ a b. called .judge-call .ensures a b ws vs t u) left (z .1 .given .1)))
           (λ z. rw (z .2) (pair-holds there (l .i) h (read .record-at .ensures) s are ws vs (λ a b. called .judge-call .ensures a b ws vs t u) left (z .1 .given .1)))
           (c .match .came),
+      kept .0 ∙ lent-long joined .0,
+      kept .1 .0 ∙ lent-long joined .1,
     )
 
 pub judge-pairs-spec : {M : Type 1} → statement M
@@ -233,7 +257,7 @@ judge-pairs-spec =
     (tie.spec
     Inv-loop
     μ-loop
-    (λ c. (omega arith, none-kept _ _ _ _ _ _ _ refl, λ p symbols qs ws vs s are there long t u. none-judged _ _ _))
+    (λ c. (omega arith, none-kept _ _ _ _ _ _ _ refl, λ p symbols qs ws vs s are there long t u. none-judged _ _ _, refl, refl))
     (λ c. omega (arith, its-record c))
     (λ c. omega (arith, its-record c))
     (λ c κs. omega (arith, its-record c))
@@ -250,14 +274,18 @@ judge-pairs-spec =
     (λ c. search needs)
     (λ c. omega (arith, c .before .shared-slice-known9 .given (2 * c .before .before .before .before .record-at .result .a + 1)))
     (λ c. search needs)
+    (λ c. search needs)
+    (λ c. search needs)
     left-requires
     (λ c. search (needs, left-kept (c .before) .long))
+    (λ c. search (needs, lent-long (c .before .before) .0))
+    (λ c. search (needs, lent-long (c .before .before .before) .1))
     requires
     (λ c. search needs)
     returns
     (λ c. search needs)
     (λ c. search needs)
-    (λ c. omega arith)
+    add-i
     (λ c. omega arith)
     again
     (λ c.

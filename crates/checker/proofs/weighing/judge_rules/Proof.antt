@@ -1,5 +1,5 @@
 -- `checker::weighing::judge_rules` meets its contract. The loop's invariant: the rules from rule i on are left to judge.
-use mathlib.Core.Path.{_≡_}
+use mathlib.Core.Path.{_≡_, refl, _∙_}
 use mathlib.Core.Bool.{Bool, true, false, not}
 use mathlib.Core.Logic.{⊎-elim}
 use mathlib.Core.List.{List, [], _∷_}
@@ -7,7 +7,7 @@ use Prim.Native.Nat.{ℕ, _+_, _*_, _-_, _≤_, _<_}
 use native.Mathlib.Numerals.{add-one}
 use native.Mathlib.Omega.{arith}
 use borrow.Author.Needs.{needs}
-use lib.ListN.{getD, drop, drop-of-length-le}
+use lib.ListN.{length, getD, drop, drop-of-length-le}
 use lib.Seq.{drop-cons}
 use Rattle.rewriting.specs.Terms.{System, rule, no-rule}
 use Rattle.pack_reader.specs.Stored.{Stored}
@@ -26,12 +26,14 @@ abbrev Rules-left : System → (weights marked : List Weight) → (i : ℕ) → 
 Rules-left p ws vs i failed = To-judge (rule-over (weighting ws vs)) (rules-hold (weighting ws vs)) (p .rules) (drop i (p .rules)) failed
 
 abbrev Inv-loop : tie.InvT-loop
-Inv-loop arities table starts nodes marks rules failed₀ i₀ failed i =
+Inv-loop arities table starts nodes marks rules factors₀ bounds₀ failed₀ i₀ factors bounds failed i =
     (i ≤ rules)
     × ((p : System) (symbols : ℕ) (ws vs : List Weight) → Stored p symbols rules arities starts nodes marks → Table-is table ws → Rules-left p ws vs i failed)
+    × (length factors ≡ 32)
+    × (length bounds ≡ 32)
 
 abbrev μ-loop : tie.MeasureT-loop
-μ-loop arities table starts nodes marks rules failed₀ i₀ failed i = rules - i
+μ-loop arities table starts nodes marks rules factors₀ bounds₀ failed₀ i₀ factors bounds failed i = rules - i
 
 module _
     {p : System} {symbols rules : ℕ} {ar ss ns ms : List ℕ} (s : Stored p symbols rules ar ss ns ms) (ws vs : List Weight) (i : ℕ) {failed : Bool}
@@ -73,37 +75,46 @@ module _
 
 requires : tie.Need-judge-rule-requires Inv-loop μ-loop
 requires c κs =
-    let i = c .before .before .before .loop .i in
-    let start = c .before .before .before .before .before .before .before .before .before in
+    let turn = c .before .before .before .before in
+    let l = turn .before .loop in
+    let i = l .i in
+    let start = turn .before .before .before .before .before .before .before in
     let kept = start .pre .0 in
     let s = start .pre .2 .2 in
-    let h = c .before .before .loop-test .taken in (
+    let h = turn .loop-test .taken in (
       kept .arities-long,
       start .pre .1,
       kept .nodes-long,
       left-weighable s i h,
       right-weighable s i h,
+      l .inv .2,
+      l .inv .3,
     )
 
 returns : tie.Need-returns Inv-loop μ-loop
 returns c =
-    let turn = c .before .before .before .before .before in
+    let called = c .before .before .before .before in
+    let turn = called .before .before .before .before .before in
     let l = turn .before .loop in
     λ p symbols ws vs s t.
     rule-over-limit s ws vs (l .i) (l .inv .1 p symbols ws vs s t) (turn .loop-test .taken)
-    (λ a b. c .before .before .judge-rule .ensures a b ws vs t)
+    (λ a b. called .judge-rule .ensures a b ws vs t)
     (c .enum-told .given .1)
 
 again : tie.Need-loop-again Inv-loop μ-loop
 again c =
-    let turn = c .before .before .before .before in
-    let l = turn .before .loop in (
+    let called = c .before .before .before in
+    let turn = called .before .before .before .before .before in
+    let l = turn .before .loop in
+    let kept = called .judge-rule .kept .1 .1 .1 .1 .1 in (
       omega arith,
       λ p symbols ws vs s t.
           ⊎-elim
-          (λ z. rw (z .2) (rule-fails s ws vs (l .i) (l .inv .1 p symbols ws vs s t) (turn .loop-test .taken) (λ a b. c .before .judge-rule .ensures a b ws vs t) (z .1 .given .1)))
-          (λ z. rw (z .2) (rule-holds s ws vs (l .i) (l .inv .1 p symbols ws vs s t) (turn .loop-test .taken) (λ a b. c .before .judge-rule .ensures a b ws vs t) (z .1 .given .1)))
+          (λ z. rw (z .2) (rule-fails s ws vs (l .i) (l .inv .1 p symbols ws vs s t) (turn .loop-test .taken) (λ a b. called .judge-rule .ensures a b ws vs t) (z .1 .given .1)))
+          (λ z. rw (z .2) (rule-holds s ws vs (l .i) (l .inv .1 p symbols ws vs s t) (turn .loop-test .taken) (λ a b. called .judge-rule .ensures a b ws vs t) (z .1 .given .1)))
           (c .match .came),
+      kept .0 ∙ l .inv .2,
+      kept .1 .0 ∙ l .inv .3,
     )
 
 pub judge-rules-spec : {M : Type 1} → statement M
@@ -112,7 +123,7 @@ judge-rules-spec =
     (tie.spec
     Inv-loop
     μ-loop
-    (λ c. (omega arith, λ p symbols ws vs s t. none-judged _ _ _))
+    (λ c. (omega arith, λ p symbols ws vs s t. none-judged _ _ _, refl, refl))
     (λ c. omega arith)
     (λ c. omega arith)
     (λ c. omega arith)
@@ -122,6 +133,8 @@ judge-rules-spec =
     (λ c. omega arith)
     (λ c. omega arith)
     (λ c. omega (arith, c .shared-slice-known7 .given (2 * c .before .before .before .loop .i + 1)))
+    (λ c. search needs)
+    (λ c. search needs)
     requires
     (λ c. search needs)
     returns

@@ -17,9 +17,9 @@ returns-3 : tie.Need-returns-3
 unfolding Left-known verdict
 returns-3 c = λ l m ws ms x y.
     let both = c .before .before .before in
-    let second = both .before .before .before .before .before in
+    let second = both .before .before .before .before .before .before .before in
     let through = second .before .before .before .before in
-    let first = through .before .before .before .before .before .before .before in
+    let first = through .before .before .before .before .before .before .before .before .before in
     as-call _ _ _ _ l m ws ms _
     (spread-verdict ms ws greater _ _ _ _ _ _
     (first .pre .7 (not-false _ (through .if1 .left)) l ws ms x y)
@@ -31,9 +31,9 @@ returns-4 : tie.Need-returns-4
 unfolding Left-known verdict
 returns-4 c = λ l m ws ms x y.
     let both = c .before .before .before .before .before .before in
-    let second = both .before .before .before .before .before in
+    let second = both .before .before .before .before .before .before .before in
     let through = second .before .before .before .before in
-    let first = through .before .before .before .before .before .before .before in
+    let first = through .before .before .before .before .before .before .before .before .before in
     as-call _ _ _ _ l m ws ms _
     (spread-verdict ms ws greater _ _ _ _ _ _
     (first .pre .7 (not-false _ (through .if1 .left)) l ws ms x y)
@@ -45,9 +45,9 @@ returns-5 : tie.Need-returns-5
 unfolding Left-known verdict
 returns-5 c = λ l m ws ms x y.
     let both = c .before .before .before .before .before .before in
-    let second = both .before .before .before .before .before in
+    let second = both .before .before .before .before .before .before .before in
     let through = second .before .before .before .before in
-    let first = through .before .before .before .before .before .before .before in
+    let first = through .before .before .before .before .before .before .before .before .before in
     as-call _ _ _ _ l m ws ms _
     (spread-verdict ms ws greater _ _ _ _ _ _
     (first .pre .7 (not-false _ (through .if1 .left)) l ws ms x y)
@@ -62,13 +62,19 @@ judge-call-spec =
     (λ c κs. search needs)
     (λ c. search needs)
     (λ c. search needs)
-    (λ c. search needs)
-    (λ c. search needs)
     (λ c κs. search needs)
     (λ c κs. search needs)
+    (λ c. search needs)
+    (λ c. search needs)
+    (λ c. search needs)
+    (λ c. search needs)
     (λ c. search needs)
     returns-3
     (λ c. search needs)
     (λ c κs. search needs)
+    (λ c. search needs)
+    (λ c. search needs)
     returns-4
+    (λ c. search needs)
+    (λ c. search needs)
     returns-5)

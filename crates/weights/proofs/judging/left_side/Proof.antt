@@ -14,13 +14,13 @@ sixteen xs n e h = e ∙ ap (λ (k : ℕ). replicate k 0) h
 requires : tie.Need-side-requires
 requires c κs =
     let cleared = c .before .before .before .before .before in
-    let pre = cleared .before .before .before .before .before .before .before .pre in
-    (pre .0, pre .1, pre .2, pre .3, refl, refl, sixteen _ _ (cleared .clear .ensures) (pre .4), pre .5 .side)
+    let pre = cleared .before .before .before .before .before .before .before .before .before .pre in
+    (pre .0, pre .1, pre .2, pre .3, pre .6, pre .7, sixteen _ _ (cleared .clear .ensures) (pre .4), pre .5 .side)
 
 returns : tie.Need-returns
 unfolding Left-known
 returns c =
-    let found = c .before .before .before .before .side .ensures in
+    let found = c .before .before .before .before .before .before .side .ensures in
     (found .0, λ through w ws ms x y. found .1 through (w .side) ms ws y x)
 
 pub left-side-spec : {M : Type 1} → statement M
@@ -28,8 +28,8 @@ left-side-spec =
     tie.close
     (tie.spec
     (λ c κs. search needs)
-    (λ c. search needs)
-    (λ c. search needs)
     requires
+    (λ c. search needs)
+    (λ c. search needs)
     (λ c. search needs)
     returns)
