@@ -2,13 +2,14 @@
 -- there, and the two files' kinds never mix.
 use mathlib.Core.Path.{_≡_, refl, sym, subst}
 use mathlib.Core.Bool.{Bool, true, false, false≢true}
+use mathlib.Core.Logic.{_⊎_, ⊎-elim}
 use mathlib.Core.List.{List, [], _∷_}
 use Prim.Native.Nat.{ℕ, zero, suc, _+_, _-_, _*_, _/_, _%_, _^_, _≤_, _<_}
 use native.Mathlib.Nat.{le-of-suc-le-suc}
 use native.Mathlib.Omega.{arith}
 use lib.Dec.{ltb, eqb}
 use lib.ListN.{getD}
-use borrow.Author.Tests.{eqb-true, lt-ltb}
+use borrow.Author.Tests.{eqb-true, ne-eqb, lt-ltb}
 use Rattle.records.specs.Order.{S-symbol, R-rule, F-application, V-variable, C-component, P-pair, W-weight, M-marked, index, order, lets, may-follow}
 
 -- a byte is one of the eight letters or none of them
@@ -108,3 +109,54 @@ apart before next = (digit before next - entry before next) + (entry before next
 pub digits-are : (before next : ℕ) → before < 11 → next < 11 → digit before next ≡ entry before next
 unfolding order sum-below sum-of
 digits-are before next h k = let z : apart before next ≡ 0 = zero-in 11 11 apart refl before next h k in omega arith
+
+-- THE CODE'S KINDS: a row is a hex digit of one of two numbers
+
+abbrev kind-digit : (rows k : ℕ) → ℕ
+kind-digit rows k = rows / 2 ^ (4 * (k % 16)) % 16
+
+abbrev kind-apart : (rows k : ℕ) → ℕ
+kind-apart rows k = (kind-digit rows k - index k) + (index k - kind-digit rows k)
+
+pub low-kinds : (k : ℕ) → 64 ≤ k → k < 80 → kind-digit 12293325782728207018 k ≡ index k
+unfolding index sum-below
+low-kinds k h l =
+    let e : 64 + (k - 64) ≡ k = omega arith in
+    let z : kind-apart 12293325782728207018 k ≡ 0 = rw e at (zero-below 16 (λ i. kind-apart 12293325782728207018 (64 + i)) refl (k - 64) (omega arith)) in
+    omega arith
+
+pub high-kinds : (k : ℕ) → 80 ≤ k → k < 96 → kind-digit 12297829381835461287 k ≡ index k
+unfolding index sum-below
+high-kinds k h l =
+    let e : 80 + (k - 80) ≡ k = omega arith in
+    let z : kind-apart 12297829381835461287 k ≡ 0 = rw e at (zero-below 16 (λ i. kind-apart 12297829381835461287 (80 + i)) refl (k - 80) (omega arith)) in
+    omega arith
+
+pub no-kind : (k : ℕ) → _⊎_ (k < 64) (96 ≤ k) → index k ≡ 10
+unfolding index
+no-kind k h =
+    simp (
+      ne-eqb k 83 (λ e. ⊎-elim (λ l. omega arith) (λ l. omega arith) h),
+      ne-eqb k 82 (λ e. ⊎-elim (λ l. omega arith) (λ l. omega arith) h),
+      ne-eqb k 70 (λ e. ⊎-elim (λ l. omega arith) (λ l. omega arith) h),
+      ne-eqb k 86 (λ e. ⊎-elim (λ l. omega arith) (λ l. omega arith) h),
+      ne-eqb k 67 (λ e. ⊎-elim (λ l. omega arith) (λ l. omega arith) h),
+      ne-eqb k 80 (λ e. ⊎-elim (λ l. omega arith) (λ l. omega arith) h),
+      ne-eqb k 87 (λ e. ⊎-elim (λ l. omega arith) (λ l. omega arith) h),
+      ne-eqb k 77 (λ e. ⊎-elim (λ l. omega arith) (λ l. omega arith) h),
+    )
+
+pub index-small : (k : ℕ) → index k < 11
+unfolding index
+index-small k = small (kind-of k)
+  where
+    small : {m : ℕ} → Kind m → index m < 11
+    small is-S = omega arith
+    small is-R = omega arith
+    small is-F = omega arith
+    small is-V = omega arith
+    small is-C = omega arith
+    small is-P = omega arith
+    small is-W = omega arith
+    small is-M = omega arith
+    small (is-other m e) = omega (arith, e)

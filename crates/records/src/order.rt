@@ -27,22 +27,28 @@ fn entry(before: usize, next: usize) -> u8
     ((ORDER[before] >> (4 * next)) % 16) as u8
 }
 
+// The rows of kinds 64 to 79 and 80 to 95, from the last hex digit on: numbers, so that a kind is told without a jump.
+const LOW_KINDS: u64 = 0xAA9AAAAAA3AA6AAA;
+
+const HIGH_KINDS: u64 = 0xAAAAAAAA84AA12A7;
+
 // A kind's row and column.
 pub fn index(kind: u8) -> usize
     ensures row { λ r. ⌜ r ≡ index kind ⌝ }
     ensures small { λ r. ⌜ r < 11 ⌝ }
 {
-    match kind {
-        b'S' => 1,
-        b'R' => 2,
-        b'F' => 3,
-        b'V' => 4,
-        b'C' => 6,
-        b'P' => 7,
-        b'W' => 8,
-        b'M' => 9,
-        _ => 10,
+    let k = kind as usize;
+    if k < 64 {
+        return 10;
     }
+    if 96 <= k {
+        return 10;
+    }
+    let mut rows = LOW_KINDS;
+    if 80 <= k {
+        rows = HIGH_KINDS;
+    }
+    ((rows >> (4 * (k % 16))) % 16) as usize
 }
 
 // Whether an entry lets a record stand, by the count still due and whether the component has a weighting.
