@@ -3,7 +3,7 @@ use polynomials::Polynomial;
 ghost use mathlib.Core.Path.{_≡_};
 ghost use mathlib.Core.Bool.{false};
 ghost use Prim.Native.Nat.{ℕ, _+_, _≤_, _<_};
-ghost use lib.ListN.{set};
+ghost use lib.ListN.{length, set};
 ghost use Rattle.polynomials.specs.Polynomials.{polynomial, no-coefficients, each-at-least, at-least, greater};
 ghost use Rattle.polynomials.specs.Limit.{over-limit, any-above};
 ghost use Rattle.weights.specs.Working.{added, Parts};
@@ -68,8 +68,10 @@ pub fn passes(x: Polynomial) -> bool
     any_above(xs)
 }
 
-fn each_at_least(xs: [u64; 16], ys: [u64; 16]) -> bool
-    ensures { λ r. ⌜ r ≡ each-at-least xs ys ⌝ }
+// Each coefficient is at least the other's.
+pub fn all_at_least(xs: &[u64], ys: &[u64]) -> bool
+    requires { ⌜ (length (now xs) ≡ 16) × (length (now ys) ≡ 16) ⌝ }
+    ensures { λ r. ⌜ r ≡ each-at-least (now (xs .entry)) (now (ys .entry)) ⌝ }
 {
     let mut v = 0;
     while v < 16 {
@@ -89,7 +91,7 @@ pub fn at_least(x: Polynomial, y: Polynomial) -> bool
     }
     let xs = x.coefficients;
     let ys = y.coefficients;
-    each_at_least(xs, ys)
+    all_at_least(&xs, &ys)
 }
 
 pub fn greater(x: Polynomial, y: Polynomial) -> bool
@@ -100,5 +102,5 @@ pub fn greater(x: Polynomial, y: Polynomial) -> bool
     }
     let left = x.coefficients;
     let right = y.coefficients;
-    each_at_least(left, right)
+    all_at_least(&left, &right)
 }

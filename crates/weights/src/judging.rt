@@ -37,7 +37,7 @@ pub fn judge_rule(
     if l.constant < r.constant {
         return Verdict::Fails;
     }
-    if crate::stack::all_at_least(&x, &y) {
+    if crate::arithmetic::all_at_least(&x, &y) {
         return Verdict::Holds;
     }
     Verdict::Fails
@@ -110,7 +110,7 @@ pub fn judge_call(
     if known.constant <= r.constant {
         return Verdict::Fails;
     }
-    if crate::stack::all_at_least(sums, &y) {
+    if crate::arithmetic::all_at_least(sums, &y) {
         return Verdict::Holds;
     }
     Verdict::Fails

@@ -5,7 +5,7 @@ ghost use mathlib.Core.List.{List};
 ghost use Prim.Native.Nat.{ℕ, _+_, _*_, _≤_, _<_};
 ghost use lib.ListN.{length, replicate};
 ghost use Rattle.terms.specs.Sides.{flat};
-ghost use Rattle.polynomials.specs.Polynomials.{Weight, polynomial, polynomials, each-at-least};
+ghost use Rattle.polynomials.specs.Polynomials.{Weight, polynomial, polynomials};
 ghost use Rattle.weights.specs.Working.{Table-is, Weighable, Room, term-bounds, stacked, stacked-bound, Stacks, Pushed, Coming, Spread-as};
 
 // One node: whether no bound passed the limit, how many terms are to come after it, and its parts of the constant and of the
@@ -195,19 +195,4 @@ pub fn side(
         };
     }
     r
-}
-
-// Each sum is at least the other's.
-pub fn all_at_least(xs: &[u64], ys: &[u64]) -> bool
-    requires { ⌜ (length (now xs) ≡ 16) × (length (now ys) ≡ 16) ⌝ }
-    ensures { λ r. ⌜ r ≡ each-at-least (now (xs .entry)) (now (ys .entry)) ⌝ }
-{
-    let mut v = 0;
-    while v < 16 {
-        if xs[v] < ys[v] {
-            return false;
-        }
-        v = v + 1;
-    }
-    true
 }

@@ -11,7 +11,7 @@ returns c = rw (lt-leb _ _ (c .if1 .taken))
 
 returns-2 : tie.Need-returns-2
 unfolding at-least
-returns-2 c = rw (le-leb _ _ (c .before .before .before .if1 .left)) (c .each-at-least .ensures)
+returns-2 c = rw (le-leb _ _ (c .before .before .before .before .before .if1 .left)) (c .all-at-least .ensures)
 
 pub at-least-spec : {M : Type 1} → statement M
-at-least-spec = tie.close (tie.spec returns (λ c κs. search needs) returns-2)
+at-least-spec = tie.close (tie.spec returns (λ c. search needs) (λ c. search needs) (λ c κs. search needs) returns-2)

@@ -11,7 +11,7 @@ returns c = rw (le-ltb _ _ (c .if1 .taken))
 
 returns-2 : tie.Need-returns-2
 unfolding greater
-returns-2 c = rw (lt-ltb _ _ (c .before .before .before .if1 .left)) (c .each-at-least .ensures)
+returns-2 c = rw (lt-ltb _ _ (c .before .before .before .before .before .if1 .left)) (c .all-at-least .ensures)
 
 pub greater-spec : {M : Type 1} → statement M
-greater-spec = tie.close (tie.spec returns (λ c κs. search needs) returns-2)
+greater-spec = tie.close (tie.spec returns (λ c. search needs) (λ c. search needs) (λ c κs. search needs) returns-2)

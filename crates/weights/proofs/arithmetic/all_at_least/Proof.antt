@@ -1,4 +1,4 @@
--- `weights::stack::all_at_least` meets its contract. The loop's invariant: each sum from v on is at least the other's exactly if
+-- `weights::arithmetic::all_at_least` meets its contract. The loop's invariant: each coefficient from v on is at least the other's exactly if
 -- each of all is.
 use mathlib.Core.Path.{_≡_, refl, sym, _∙_}
 use Prim.Native.Nat.{ℕ, _-_, _≤_}
@@ -7,8 +7,8 @@ use lib.ListN.{length, drop}
 use borrow.Author.Needs.{needs}
 use Rattle.polynomials.specs.Polynomials.{each-at-least}
 use Rattle.weights.proofs.Least.{less, passed, none-left}
-use Rattle.weights.proofs.stack.all_at_least.Statement.{statement}
-use Rattle.weights.proofs.stack.all_at_least.Tie as tie
+use Rattle.weights.proofs.arithmetic.all_at_least.Statement.{statement}
+use Rattle.weights.proofs.arithmetic.all_at_least.Tie as tie
 
 abbrev Inv-loop : tie.InvT-loop
 Inv-loop xs ys v₀ v =
