@@ -6,6 +6,7 @@ use Prim.Native.Nat.{ℕ, suc, _+_, _*_}
 use lib.Dec.{ltb, eqb}
 use lib.ListN.{length, getD, set}
 use Rattle.records.specs.declared.Record.{Record}
+use Rattle.records.specs.Order.{C-component, P-pair}
 use Rattle.entries.specs.declared.Entry.{Entry}
 
 -- no component has named a pair here
@@ -14,11 +15,11 @@ none = record { rule = 0; place = 0; component = 0 }
 
 -- a P record's slot: 32 × rule + place; a slot past all entries for any other record
 unfoldable pub slot : Record → ℕ
-slot r = cond (eqb (r .kind) 80) (32 * r .a + r .b) 2048
+slot r = cond (eqb (r .kind) P-pair) (32 * r .a + r .b) 2048
 
 -- the number of the component, counted from 1, that a record belongs to: C begins the next one
 unfoldable pub numbered : (before : ℕ) → Record → ℕ
-numbered n r = cond (eqb (r .kind) 67) (suc n) n
+numbered n r = cond (eqb (r .kind) C-component) (suc n) n
 
 abbrev pub entry : Record → (component : ℕ) → Entry
 entry r n = record { rule = r .a; place = r .b; component = n }

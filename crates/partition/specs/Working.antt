@@ -12,6 +12,7 @@ use Rattle.records.specs.declared.Record.{Record}
 use Rattle.records.specs.declared.Answer.{Answer}
 use Rattle.records.specs.Outcomes.{passed, refusal}
 use Rattle.records.specs.Records.{record-at}
+use Rattle.records.specs.Order.{P-pair}
 use Rattle.records.specs.Answers.{outcome-of}
 use Rattle.pack_reader.specs.Stored.{Stored}
 use Rattle.pairs.specs.Listing.{a-pair, pairs, count-pair}
@@ -37,14 +38,14 @@ All-small qs = (k : ℕ) → k < length qs → (getD qs k (a-pair 0 0) .at-rule 
 -- how many pairs the records name
 unfoldable pub named : List Record → ℕ
 named [] = 0
-named (r ∷ rs) = cond (eqb (r .kind) 80) (suc (named rs)) (named rs)
+named (r ∷ rs) = cond (eqb (r .kind) P-pair) (suc (named rs)) (named rs)
 
 -- the lowest component that names a pair of rule s; 65535 if none does
 unfoldable pub lowest : (s before : ℕ) → List Record → ℕ
 lowest s b [] = 65535
 lowest s b (r ∷ rs) =
     let m = numbered b r in
-    cond (eqb (r .kind) 80 && eqb (r .a) s) (min m (lowest s m rs)) (lowest s m rs)
+    cond (eqb (r .kind) P-pair && eqb (r .a) s) (min m (lowest s m rs)) (lowest s m rs)
 
 -- an arc leads from the pair to one of the first rules with a pair in a component below its own
 unfoldable pub back-to : System → (lows : List ℕ) → (own : ℕ) → Pair → (rules : ℕ) → Bool
@@ -53,7 +54,7 @@ back-to p ls own q (suc s) = back-to p ls own q s || (ltb (getD ls s 0) own && a
 
 -- it does from a pair that a record names
 unfoldable pub back-at : System → (lows : List ℕ) → (rules own : ℕ) → Record → Bool
-back-at p ls n own r = eqb (r .kind) 80 && back-to p ls own (a-pair (r .a) (r .b)) n
+back-at p ls n own r = eqb (r .kind) P-pair && back-to p ls own (a-pair (r .a) (r .b)) n
 
 unfoldable pub any-back : System → (lows : List ℕ) → (rules before : ℕ) → List Record → Bool
 any-back p ls n b [] = false
@@ -62,7 +63,7 @@ any-back p ls n b (r ∷ rs) = let m = numbered b r in back-at p ls n m r || any
 -- every P record names a pair of the system
 unfoldable pub Names-pairs : System → (certificate : List ℕ) → Type 0
 Names-pairs p ds =
-    (k : ℕ) → 8 * k + 8 ≤ length ds → record-at ds (8 * k) .kind ≡ 80 → is-pair p (a-pair (record-at ds (8 * k) .a) (record-at ds (8 * k) .b)) ≡ true
+    (k : ℕ) → 8 * k + 8 ≤ length ds → record-at ds (8 * k) .kind ≡ P-pair → is-pair p (a-pair (record-at ds (8 * k) .a) (record-at ds (8 * k) .b)) ≡ true
 
 -- a certificate that was read for a pack that is kept
 pub record Judgeable (p : System) (certificate : List ℕ) (components rules : ℕ) (arities starts nodes marks : List ℕ) : Type 0 where
