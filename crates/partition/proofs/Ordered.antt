@@ -1,6 +1,6 @@
 -- 8 and 9 from what the code finds: a wrong count, a pair that stands twice, an arc back.
 use mathlib.Core.Path.{_≡_, refl, sym, ap, _∙_}
-use mathlib.Core.Bool.{Bool, true, false, _&&_, not, cond}
+use mathlib.Core.Bool.{Bool, true, false, _&&_, not, cond, and-false}
 use mathlib.Core.List.{List, []}
 use Prim.Native.Nat.{ℕ, _≤_, _<_}
 use native.Mathlib.Omega.{arith}
@@ -25,10 +25,6 @@ use Rattle.partition.proofs.Twice.{twice-means}
 use Rattle.partition.proofs.Named.{named-means, names-pairs}
 use Rattle.partition.proofs.Backward.{back-means, one-component}
 use Rattle.partition.proofs.FromRead.{read-are, read-few, read-pairs, read-small}
-
-and-false : (a : Bool) → (a && false) ≡ false
-and-false true = refl
-and-false false = refl
 
 module _ (p : System) (ds : List ℕ) (components rules : ℕ) (ar ss ns ms : List ℕ) (j : Judgeable p ds components rules ar ss ns ms) where
   abbrev cs : List Component

@@ -24,7 +24,7 @@ joined nil us = us
 joined (cons t ts) us = cons t (joined ts us)
 
 module _ (p : System) where
-  others-list : (t ts : Tree) → well p (cons t ts) ≡ true → is-list ts ≡ true
+  pub others-list : (t ts : Tree) → well p (cons t ts) ≡ true → is-list ts ≡ true
   unfolding well
   others-list t ts h = search ands
 

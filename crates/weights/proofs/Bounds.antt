@@ -10,9 +10,9 @@ use lib.Dec.{eqb}
 use lib.ListN.{length, getD, set, replicate, length-append, length-set}
 use borrow.Author.Tests.{eqb-true, eqb-false}
 use Rattle.rewriting.specs.Terms.{Tree, var, app, nil, cons, System, is-list, well, width}
-use Rattle.rewriting.proofs.Basics.{by-test, ands, or-both-false, Each, each-nil, each-cons, each-head, each-left, each-right}
+use Rattle.rewriting.proofs.Basics.{by-test, or-both-false, Each, each-nil, each-cons, each-head, each-left, each-right}
 use Rattle.rewriting.proofs.Trees.{term-not-list, well-first, well-others}
-use Rattle.terms.proofs.Rests.{joined}
+use Rattle.terms.proofs.Rests.{joined, others-list}
 use Rattle.polynomials.specs.declared.Polynomial.{Polynomial}
 use Rattle.polynomials.specs.Polynomials.{Weight, weight, polynomial, no-coefficients, summed, combined, polynomials}
 use Rattle.polynomials.specs.Values.{total, value-of}
@@ -32,10 +32,6 @@ one-bound ws nil e = absurd (true≢false e)
 one-bound ws (cons t ts) e = absurd (true≢false e)
 
 module _ (p : System) (ws : List Weight) where
-  others-list : (t ts : Tree) → well p (cons t ts) ≡ true → is-list ts ≡ true
-  unfolding well
-  others-list t ts h = search ands
-
   many-bounds : (ts : Tree) → is-list ts ≡ true → well p ts ≡ true → length (term-bounds ws ts) ≡ width ts
   unfolding term-bounds is-list width
   many-bounds (var v) l h = absurd (false≢true l)
@@ -43,7 +39,7 @@ module _ (p : System) (ws : List Weight) where
   many-bounds nil l h = refl
   many-bounds (cons t ts) l h =
       let first = one-bound ws t (term-not-list p t (well-first p t ts h)) in
-      let others = many-bounds ts (others-list t ts h) (well-others p t ts h) in
+      let others = many-bounds ts (others-list p t ts h) (well-others p t ts h) in
       omega (arith, length-append (term-bounds ws t) (term-bounds ws ts))
 
   joined-bounds : (ts us : Tree) → is-list ts ≡ true → well p ts ≡ true → term-bounds ws (joined ts us) ≡ term-bounds ws ts ++ term-bounds ws us
@@ -52,7 +48,7 @@ module _ (p : System) (ws : List Weight) where
   joined-bounds (app f ts) us l h = absurd (false≢true l)
   joined-bounds nil us l h = refl
   joined-bounds (cons t ts) us l h =
-      rw (joined-bounds ts us (others-list t ts h) (well-others p t ts h)) (sym (append-assoc (term-bounds ws t) (term-bounds ws ts) (term-bounds ws us)))
+      rw (joined-bounds ts us (others-list p t ts h) (well-others p t ts h)) (sym (append-assoc (term-bounds ws t) (term-bounds ws ts) (term-bounds ws us)))
 
 stacked-append :
     (gs : List ℕ) (n m : ℕ) (xs ys : List ℕ) (t : ℕ) → m ≡ n + length xs →

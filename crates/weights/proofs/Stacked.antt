@@ -8,9 +8,9 @@ use native.Mathlib.Nat.{add-zero}
 use native.Mathlib.Omega.{arith}
 use lib.ListN.{length, getD, set, replicate}
 use Rattle.rewriting.specs.Terms.{Tree, var, app, nil, cons, System, is-list, well, width}
-use Rattle.rewriting.proofs.Basics.{ands, Each, each-nil, each-cons}
+use Rattle.rewriting.proofs.Basics.{Each, each-nil, each-cons}
 use Rattle.rewriting.proofs.Trees.{term-not-list, well-first, well-others}
-use Rattle.terms.proofs.Rests.{joined}
+use Rattle.terms.proofs.Rests.{joined, others-list}
 use Rattle.polynomials.specs.declared.Polynomial.{Polynomial}
 use Rattle.polynomials.specs.Polynomials.{Weight, weight, polynomial, no-coefficients, scaled-sum, summed, combined, polynomials}
 use Rattle.polynomials.proofs.Meaning.{Sixteen, combined-sixteen, polynomials-sixteen}
@@ -21,10 +21,6 @@ use Rattle.weights.proofs.Gathering.{scaled-none, one-slot, scaled-twic
 -- THE POLYNOMIALS OF A LIST
 
 module _ (p : System) (ws : List Weight) where
-  others-list : (t ts : Tree) → well p (cons t ts) ≡ true → is-list ts ≡ true
-  unfolding well
-  others-list t ts h = search ands
-
   -- one for each term
   polynomials-long : (ts : Tree) → is-list ts ≡ true → well p ts ≡ true → length (polynomials ws ts) ≡ width ts
   unfolding polynomials is-list width
@@ -33,7 +29,7 @@ module _ (p : System) (ws : List Weight) where
   polynomials-long nil l h = refl
   polynomials-long (cons t ts) l h =
       ap length (polynomials-cons ws t ts (term-not-list p t (well-first p t ts h)))
-      ∙ ap suc (polynomials-long ts (others-list t ts h) (well-others p t ts h))
+      ∙ ap suc (polynomials-long ts (others-list p t ts h) (well-others p t ts h))
 
   polynomials-joined :
       (ts us : Tree) → is-list ts ≡ true → well p ts ≡ true → polynomials ws (joined ts us) ≡ polynomials ws ts ++ polynomials ws us
@@ -42,7 +38,7 @@ module _ (p : System) (ws : List Weight) where
   polynomials-joined (app f ts) us l h = absurd (false≢true l)
   polynomials-joined nil us l h = refl
   polynomials-joined (cons t ts) us l h =
-      ap (λ (xs : List Polynomial). polynomials ws t ++ xs) (polynomials-joined ts us (others-list t ts h) (well-others p t ts h))
+      ap (λ (xs : List Polynomial). polynomials ws t ++ xs) (polynomials-joined ts us (others-list p t ts h) (well-others p t ts h))
       ∙ sym (append-assoc (polynomials ws t) (polynomials ws ts) (polynomials ws us))
 
 -- STACKS

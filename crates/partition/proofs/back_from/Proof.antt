@@ -1,6 +1,6 @@
 -- `partition::back_from` meets its contract. The loop's invariant: no arc leads back to one of the first s rules.
 use mathlib.Core.Path.{_≡_, refl, sym, ap, _∙_}
-use mathlib.Core.Bool.{Bool, true, false, _&&_, _||_}
+use mathlib.Core.Bool.{Bool, true, false, _&&_, _||_, and-false}
 use mathlib.Core.Logic.{⊎-elim}
 use mathlib.Core.List.{List}
 use Prim.Native.Nat.{ℕ, suc, _+_, _*_, _-_, _≤_, _<_}
@@ -36,10 +36,6 @@ asked-of p q rules ar ss ns ms right s k h =
 one-more : (p : System) (q : Pair) (ls : List ℕ) (own s : ℕ) → back-to p ls own q s ≡ false → (ltb (getD ls s 0) own && arc p q (a-pair s 0)) ≡ false → back-to p ls own q (suc s) ≡ false
 unfolding back-to
 one-more p q ls own s h k = rw (h, k)
-
-and-false : (a : Bool) → (a && false) ≡ false
-and-false true = refl
-and-false false = refl
 
 -- the pair's own rule is one, so its right side is a term
 ended : tie.Need-skip-requires Inv-loop μ-loop
