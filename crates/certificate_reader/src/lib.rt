@@ -70,7 +70,7 @@ pub fn read_certificate(
             }
         }
     }
-    if records::order::may_follow(s.last, 5, s.due, s.weighted) {
+    if records::order::may_end(s.last, s.due) {
         return Answer::Passed(s.number);
     }
     Answer::Refused(Refusal::StrayRecord)

@@ -1,16 +1,16 @@
 -- The kinds of records one by one, and what the table of their order says whatever the file: what may follow has an entry
 -- there, and the two files' kinds never mix.
 use mathlib.Core.Path.{_≡_, refl, sym, subst}
-use mathlib.Core.Bool.{Bool, true, false, false≢true}
+use mathlib.Core.Bool.{Bool, true, false, cond, false≢true}
 use mathlib.Core.Logic.{_⊎_, ⊎-elim}
-use mathlib.Core.List.{List, [], _∷_}
 use Prim.Native.Nat.{ℕ, zero, suc, _+_, _-_, _*_, _/_, _%_, _^_, _≤_, _<_}
 use native.Mathlib.Nat.{le-of-suc-le-suc}
 use native.Mathlib.Omega.{arith}
 use lib.Dec.{ltb, eqb}
 use lib.ListN.{getD}
-use borrow.Author.Tests.{eqb-true, ne-eqb, lt-ltb}
-use Rattle.records.specs.Order.{S-symbol, R-rule, F-application, V-variable, C-component, P-pair, W-weight, M-marked, index, order, lets, may-follow}
+use borrow.Author.Tests.{eqb-true, ne-eqb, lt-ltb, le-leb}
+use Rattle.records.specs.Order.{S-symbol, R-rule, F-application, V-variable, C-component, P-pair, W-weight, M-marked, certificate-edge, index, order, lets, may-follow}
+use Rattle.records.specs.Rows.{bit, Row}
 
 -- a byte is one of the eight letters or none of them
 pub data Kind : ℕ → Type 0 where
@@ -59,7 +59,7 @@ may-follow-stands before next due weighted h =
     lt-ltb 0 (entry before next) (omega arith)
 
 -- numbers that add up to 0 are each 0: so computing one sum tells of every entry in a part of the table
-sum-below : ℕ → (ℕ → ℕ) → ℕ
+unfoldable pub sum-below : ℕ → (ℕ → ℕ) → ℕ
 sum-below zero f = 0
 sum-below (suc n) f = f 0 + sum-below n (λ i. f (suc i))
 
@@ -96,43 +96,62 @@ pub other-nowhere : (before : ℕ) → before ≤ 10 → entry before 10 ≡ 0
 unfolding order sum-below sum-of
 other-nowhere before h = zero-in 11 1 (λ i j. entry i 10) refl before 0 (omega arith) (omega arith)
 
--- THE CODE'S TABLE: a row is a number, an entry its hex digit
-abbrev pub rows : List ℕ
-rows = 17 ∷ 273 ∷ 69632 ∷ 140035 ∷ 140035 ∷ 17825792 ∷ 268435456 ∷ 292648124416 ∷ 73032269824 ∷ 68737302528 ∷ 0 ∷ []
+-- THE CODE'S TABLE: a row is a number, a kind's entry its bit
 
-abbrev digit : (before next : ℕ) → ℕ
-digit before next = getD rows before 0 / 2 ^ (4 * next) % 16
+-- as above, of numbers that are the same at each place
+unfoldable pub distance : ℕ → ℕ → ℕ
+distance m n = (m - n) + (n - m)
 
-abbrev apart : (before next : ℕ) → ℕ
-apart before next = (digit before next - entry before next) + (entry before next - digit before next)
+same-below : (n : ℕ) (f g : ℕ → ℕ) → sum-below n (λ i. distance (f i) (g i)) ≡ 0 → (i : ℕ) → i < n → f i ≡ g i
+unfolding distance
+same-below n f g h i b = let z : (f i - g i) + (g i - f i) ≡ 0 = zero-below n (λ i. distance (f i) (g i)) h i b in omega arith
 
-pub digits-are : (before next : ℕ) → before < 11 → next < 11 → digit before next ≡ entry before next
-unfolding order sum-below sum-of
-digits-are before next h k = let z : apart before next ≡ 0 = zero-in 11 11 apart refl before next h k in omega arith
+-- how many bits of a row say something else than the table does
+unfoldable pub misses : (before due : ℕ) → (weighted : Bool) → (row : ℕ) → ℕ
+misses before due weighted row =
+    sum-below 64 (λ k. distance (row / 2 ^ k % 2) (bit (may-follow before (index (64 + k)) due weighted)))
 
--- THE CODE'S KINDS: a row is a hex digit of one of two numbers
+pub row-at : {b : ℕ} (before : ℕ) {due : ℕ} {weighted : Bool} {row : ℕ} → b ≡ before → misses before due weighted row ≡ 0 → Row b due weighted row
+unfolding misses
+row-at before {due} {weighted} {row} e h =
+    rw e (record { bits = same-below 64 (λ k. row / 2 ^ k % 2) (λ k. bit (may-follow before (index (64 + k)) due weighted)) h })
 
-abbrev kind-digit : (rows k : ℕ) → ℕ
-kind-digit rows k = rows / 2 ^ (4 * (k % 16)) % 16
+-- the last row is the one that is left when ten are not it; five at a time, since `omega` splits each
+five-past : (b n : ℕ) → n ≤ b → (b ≡ n → ⊥) → (b ≡ n + 1 → ⊥) → (b ≡ n + 2 → ⊥) → (b ≡ n + 3 → ⊥) → (b ≡ n + 4 → ⊥) → n + 5 ≤ b
+five-past b n h n0 n1 n2 n3 n4 = omega arith
 
-abbrev kind-apart : (rows k : ℕ) → ℕ
-kind-apart rows k = (kind-digit rows k - index k) + (index k - kind-digit rows k)
+pub last-row : {U : Type 0} (b : ℕ) → b < 11
+    → (((((((((U × (b ≡ 0 → ⊥)) × (b ≡ 1 → ⊥)) × (b ≡ 2 → ⊥)) × (b ≡ 3 → ⊥)) × (b ≡ 4 → ⊥)) × (b ≡ 5 → ⊥)) × (b ≡ 6 → ⊥)) × (b ≡ 7 → ⊥)) × (b ≡ 8 → ⊥)) × (b ≡ 9 → ⊥)
+    → b ≡ 10
+last-row b h ((((((((((_, n0), n1), n2), n3), n4), n5), n6), n7), n8), n9) =
+    let past = five-past b 5 (five-past b 0 (omega arith) n0 n1 n2 n3 n4) n5 n6 n7 n8 n9 in
+    ten b h past
+  where
+    ten : (b : ℕ) → b < 11 → 10 ≤ b → b ≡ 10
+    ten b h k = omega arith
 
-pub low-kinds : (k : ℕ) → 64 ≤ k → k < 80 → kind-digit 12293325782728207018 k ≡ index k
-unfolding index sum-below
-low-kinds k h l =
-    let e : 64 + (k - 64) ≡ k = omega arith in
-    let z : kind-apart 12293325782728207018 k ≡ 0 = rw e at (zero-below 16 (λ i. kind-apart 12293325782728207018 (64 + i)) refl (k - 64) (omega arith)) in
-    omega arith
+-- while the count lasts, neither how much of it is left nor a weighting matters
+pub while-due-same : (before next due : ℕ) (weighted : Bool) → 1 ≤ due → may-follow before next due weighted ≡ may-follow before next 1 false
+unfolding may-follow lets
+while-due-same before next due weighted h = same (entry before next)
+  where
+    same : (e : ℕ) → lets e due weighted ≡ lets e 1 false
+    same zero = refl
+    same (suc zero) = refl
+    same (suc (suc zero)) = le-leb 1 due h
+    same (suc (suc (suc zero))) = ne-eqb due 0 (λ e. omega arith)
+    same (suc (suc (suc (suc e)))) = rw (ne-eqb due 0 (λ e. omega arith))
 
-pub high-kinds : (k : ℕ) → 80 ≤ k → k < 96 → kind-digit 12297829381835461287 k ≡ index k
-unfolding index sum-below
-high-kinds k h l =
-    let e : 80 + (k - 80) ≡ k = omega arith in
-    let z : kind-apart 12297829381835461287 k ≡ 0 = rw e at (zero-below 16 (λ i. kind-apart 12297829381835461287 (80 + i)) refl (k - 80) (omega arith)) in
-    omega arith
+-- what the table says of the end of a certificate
+unfoldable pub ends : ℕ → ℕ
+ends before = cond (eqb before 5) 1 (cond (eqb before 7) 3 (cond (eqb before 8) 1 (cond (eqb before 9) 1 0)))
 
-pub no-kind : (k : ℕ) → _⊎_ (k < 64) (96 ≤ k) → index k ≡ 10
+pub end-entry : (before : ℕ) → before < 11 → entry before certificate-edge ≡ ends before
+unfolding order sum-below distance ends
+end-entry before h = same-below 11 (λ i. entry i certificate-edge) ends refl before h
+
+-- no letter is below 64 or above 127
+pub no-kind : (k : ℕ) → _⊎_ (k < 64) (128 ≤ k) → index k ≡ 10
 unfolding index
 no-kind k h =
     simp (

@@ -2,6 +2,7 @@
 pub mod Outcomes
 pub mod Records
 pub mod Order
+pub mod Rows
 pub mod Rising
 pub mod Wanted
 pub mod Answers

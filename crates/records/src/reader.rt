@@ -17,7 +17,7 @@ fn wanted_in(s: &[u8], i: usize, before: usize, due: usize, weighted: bool) -> W
     ensures { λ x. ⌜ x ≡ wanted-at (now (s .entry)) i before due weighted ⌝ }
 {
     let r = crate::record_at(s, i);
-    if crate::order::may_follow(before, crate::order::index(r.kind), due, weighted) {
+    if crate::order::stands(before, r.kind, due, weighted) {
         return Wanted::Found(r);
     }
     Wanted::Stray

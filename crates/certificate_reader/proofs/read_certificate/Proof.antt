@@ -128,14 +128,14 @@ read c =
     let l = c .before .before .before .loop in
     let pre = c .before .before .before .before .before .before .before .before .before .pre in
     λ p stored.
-    ends-read p _ (pre .0) (pre .1) (l .i) (l .s) (l .inv .3 p stored) (c .before .before .loop-test .left) (sym (c .before .may-follow .ensures) ∙ c .if1 .taken)
+    ends-read p _ (pre .0) (pre .1) (l .i) (l .s) (l .inv .3 p stored) (c .before .before .loop-test .left) (sym (c .before .may-end .ensures (l .s .weighted)) ∙ c .if1 .taken)
 
 early : tie.Need-returns-4 Inv-loop μ-loop
 early c =
     let l = c .before .before .before .loop in
     let pre = c .before .before .before .before .before .before .before .before .before .pre in
     λ p stored.
-    ends-early p _ (pre .0) (pre .1) (l .i) (l .s) (l .inv .3 p stored) (c .before .before .loop-test .left) (sym (c .before .may-follow .ensures) ∙ c .if1 .left)
+    ends-early p _ (pre .0) (pre .1) (l .i) (l .s) (l .inv .3 p stored) (c .before .before .loop-test .left) (sym (c .before .may-end .ensures (l .s .weighted)) ∙ c .if1 .left)
 
 pub read-certificate-spec : {M : Type 1} → statement M
 read-certificate-spec =

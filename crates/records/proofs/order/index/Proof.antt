@@ -1,32 +1,42 @@
--- `records::order::index` meets its contract: no letter is below 64 or above 95, and the others are digits of two numbers.
-use mathlib.Core.Path.{_≡_, refl, sym, ap, _∙_}
-use mathlib.Core.Logic.{inl, inr, ⊎-elim}
-use Prim.Native.Nat.{ℕ, _*_, _/_, _%_, _^_, _≤_, _<_}
-use native.Mathlib.Omega.{arith}
-use borrow.Author.Needs.{needs}
-use Rattle.records.specs.Order.{index}
-use Rattle.records.proofs.Table.{low-kinds, high-kinds, no-kind, index-small}
+-- `records::order::index` meets its contract, letter by letter.
+use mathlib.Core.Path.{_≡_, refl}
+use Prim.Native.Nat.{ℕ, _<_}
+use borrow.Author.Tests.{ne-eqb}
+use Rattle.records.specs.Order.{S-symbol, R-rule, F-application, V-variable, C-component, P-pair, W-weight, M-marked, index}
+use Rattle.records.proofs.Table.{index-small}
 use Rattle.records.proofs.order.index.Statement.{statement}
 use Rattle.records.proofs.order.index.Tie as tie
 
-answered : (k r : ℕ) → r ≡ index k → (r ≡ index k) × (r < 11)
-answered k r e = (e, rw e (index-small k))
+answered : {k r : ℕ} (m : ℕ) → k ≡ m → r ≡ index m → (r ≡ index k) × (r < 11)
+answered m e h = rw e (h, rw h (index-small m))
 
-below : tie.Need-returns
-below c = answered (c .before .args .kind) 10 (sym (no-kind (c .before .args .kind) (inl (c .if1 .taken))))
-
-above : tie.Need-returns-2
-above c = answered (c .before .before .args .kind) 10 (sym (no-kind (c .before .before .args .kind) (inr (c .if2 .taken))))
-
-letter : tie.Need-returns-3
-letter c =
-    let chosen = c .before in
-    let k = chosen .before .before .before .args .kind in
-    answered k _
-    (⊎-elim
-    (λ w. ap (λ (n : ℕ). n / 2 ^ (4 * (k % 16)) % 16) (w .1) ∙ high-kinds k (w .0 .taken) (chosen .before .if2 .left))
-    (λ w. ap (λ (n : ℕ). n / 2 ^ (4 * (k % 16)) % 16) (w .1) ∙ low-kinds k (chosen .before .before .if1 .left) (w .0 .left))
-    (chosen .if3 .came))
+other : tie.Need-returns-9
+unfolding index
+other c =
+    let no = c .match .rest in
+    answered (c .before .args .kind) refl
+    (rw (
+      ne-eqb _ S-symbol (no .0 .0 .0 .0 .0 .0 .0 .1),
+      ne-eqb _ R-rule (no .0 .0 .0 .0 .0 .0 .1),
+      ne-eqb _ F-application (no .0 .0 .0 .0 .0 .1),
+      ne-eqb _ V-variable (no .0 .0 .0 .0 .1),
+      ne-eqb _ C-component (no .0 .0 .0 .1),
+      ne-eqb _ P-pair (no .0 .0 .1),
+      ne-eqb _ W-weight (no .0 .1),
+      ne-eqb _ M-marked (no .1),
+    ))
 
 pub index-spec : {M : Type 1} → statement M
-index-spec = tie.close (tie.spec below above (λ c. search needs) (λ c. search needs) letter)
+unfolding index
+index-spec =
+    tie.close
+    (tie.spec
+    (λ c. answered S-symbol (c .match .keys1) refl)
+    (λ c. answered R-rule (c .match .keys2) refl)
+    (λ c. answered F-application (c .match .keys3) refl)
+    (λ c. answered V-variable (c .match .keys4) refl)
+    (λ c. answered C-component (c .match .keys5) refl)
+    (λ c. answered P-pair (c .match .keys6) refl)
+    (λ c. answered W-weight (c .match .keys7) refl)
+    (λ c. answered M-marked (c .match .keys8) refl)
+    other)
