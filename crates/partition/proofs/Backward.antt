@@ -54,7 +54,7 @@ not-back-to p ls own q (suc n) s h e =
     smaller : (s ≡ n → ⊥) → s < n
     smaller z = omega arith
 
-no-back-to : (p : System) (ls : List ℕ) (own : ℕ) (q : Pair) (n : ℕ) →
+pub no-back-to : (p : System) (ls : List ℕ) (own : ℕ) (q : Pair) (n : ℕ) →
     ((s : ℕ) → s < n → (ltb (getD ls s 0) own && arc p q (a-pair s 0)) ≡ false) → back-to p ls own q n ≡ false
 unfolding back-to
 no-back-to p ls own q zero h = refl

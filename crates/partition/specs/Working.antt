@@ -60,6 +60,32 @@ unfoldable pub any-back : System → (lows : List ℕ) → (rules before : ℕ) 
 any-back p ls n b [] = false
 any-back p ls n b (r ∷ rs) = let m = numbered b r in back-at p ls n m r || any-back p ls n m rs
 
+-- the root of rule s's left side, as a byte
+abbrev pub root : (starts nodes : List ℕ) → (s : ℕ) → ℕ
+root ss ns s = getD ns (getD ss (2 * s) 0) 0
+
+-- each rule's left side begins within the nodes
+pub record Begun (rules : ℕ) (starts nodes : List ℕ) : Type 0 where
+  pub few : rules ≤ 64
+  pub starts-long : length starts ≡ 129
+  pub within : (s : ℕ) → s < rules → getD starts (2 * s) 0 < length nodes
+
+-- of each of the first rules, its root and its lowest component as one number
+pub record Keys (rules : ℕ) (starts nodes lows keys : List ℕ) : Type 0 where
+  pub long : length keys ≡ 64
+  pub small : (s : ℕ) → s < rules → getD lows s 0 < 65536
+  pub key : (s : ℕ) → s < rules → getD keys s 0 ≡ 65536 * root starts nodes s + getD lows s 0
+
+-- of each root, a component no higher than the lowest of any of the first rules with that root
+pub record Roots (rules : ℕ) (starts nodes lows roots : List ℕ) : Type 0 where
+  pub long : length roots ≡ 64
+  pub low : (s : ℕ) → s < rules → root starts nodes s < 64 → getD roots (root starts nodes s) 0 ≤ getD lows s 0
+
+-- what is kept to find arcs back: both, of the lowest component of each rule
+pub record Keyed (rules : ℕ) (starts nodes lows keys roots : List ℕ) : Type 0 where
+  pub keys-are : Keys rules starts nodes lows keys
+  pub roots-are : Roots rules starts nodes lows roots
+
 -- every P record names a pair of the system
 unfoldable pub Names-pairs : System → (certificate : List ℕ) → Type 0
 Names-pairs p ds =

@@ -65,21 +65,21 @@ module _ (ds : List ℕ) (i : ℕ) (x : Record) (e : x ≡ record-at ds (8 * i))
     begins-small = omega (arith, pack .laid .rises (x .a) in-rules, pack .laid .within (x .a) in-rules, pack .nodes-long)
 
 returns : tie.Need-returns
-returns c = λ p symbols s names.
-    let a = c .before .before .before .before .before .before .before .before .before .args in
-    stray (a .certificate .now) (a .i) _ (c .before .before .record-at .ensures) p (a .lows .now) (a .rules) (a .own) (c .if1 .taken)
+returns c = λ p symbols lows s names keyed.
+    let a = c .before .before .before .before .before .before .before .before .before .before .args in
+    stray (a .certificate .now) (a .i) _ (c .before .before .record-at .ensures) p lows (a .rules) (a .own) (c .if1 .taken)
 
 within-starts : tie.Need-shared-slice-read-right
 within-starts c =
     let read = c .before .before .before .before in
-    let start = read .before .before .before .before .before .before .before in
+    let start = read .before .before .before .before .before .before .before .before in
     let a = start .args in
     in-starts (a .certificate .now) (a .i) _ (read .record-at .ensures) (start .pre .0) (c .before .before .if1 .left) (a .rules) _ _ _ _ (start .pre .2) (start .pre .4)
 
 begins-fits : tie.Need-cast-right-2
 begins-fits c =
     let read = c .before .before .before .before in
-    let start = read .before .before .before .before .before .before .before in
+    let start = read .before .before .before .before .before .before .before .before in
     let a = start .args in
     let b = begins-small (a .certificate .now) (a .i) _ (read .record-at .ensures) (start .pre .0) (c .before .before .if1 .left) (a .rules) _ _ _ _ (start .pre .2) (start .pre .4) in
     record { fits = omega arith }
@@ -87,7 +87,7 @@ begins-fits c =
 right-fits : tie.Need-add-right-2
 right-fits c =
     let read = c .before .before .before .before .before in
-    let start = read .before .before .before .before .before .before .before in
+    let start = read .before .before .before .before .before .before .before .before in
     let a = start .args in
     let b = begins-small (a .certificate .now) (a .i) _ (read .record-at .ensures) (start .pre .0) (c .before .before .before .if1 .left) (a .rules) _ _ _ _ (start .pre .2) (start .pre .4) in
     let d = place-small (a .certificate .now) (a .i) _ (read .record-at .ensures) (start .pre .0) (c .before .before .before .if1 .left) (a .rules) _ _ _ _ (start .pre .2) (start .pre .4) in
@@ -96,7 +96,7 @@ right-fits c =
 asked : tie.Need-back-from-requires
 asked c κs =
     let read = c .before .before .before .before .before in
-    let start = read .before .before .before .before .before .before .before in
+    let start = read .before .before .before .before .before .before .before .before in
     let a = start .args in
     let w = start .pre .4 in (
       start .pre .2,
@@ -105,13 +105,13 @@ asked c κs =
     )
 
 returns-2 : tie.Need-returns-2
-returns-2 c = λ p symbols s names.
+returns-2 c = λ p symbols lows s names keyed.
     let read = c .before .before .before .before .before .before in
-    let start = read .before .before .before .before .before .before .before in
+    let start = read .before .before .before .before .before .before .before .before in
     let a = start .args in
     let k = c .before .before .before .before .if1 .left in
-    c .back-from .ensures p (a-pair (read .record-at .result .a) (read .record-at .result .b)) (kept-there (a .certificate .now) (a .i) _ (read .record-at .ensures) (start .pre .0) k p symbols (a .rules) _ _ _ _ s names)
-    ∙ named-back (a .certificate .now) (a .i) _ (read .record-at .ensures) p (a .lows .now) (a .rules) (a .own) k
+    c .back-from .ensures p (a-pair (read .record-at .result .a) (read .record-at .result .b)) lows (kept-there (a .certificate .now) (a .i) _ (read .record-at .ensures) (start .pre .0) k p symbols (a .rules) _ _ _ _ s names) keyed
+    ∙ named-back (a .certificate .now) (a .i) _ (read .record-at .ensures) p lows (a .rules) (a .own) k
 
 pub back-from-record-spec : {M : Type 1} → statement M
 back-from-record-spec =
