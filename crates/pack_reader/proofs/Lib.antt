@@ -8,6 +8,7 @@ pub mod SymbolSteps
 pub mod SymbolsPhase
 pub mod RulesPhase
 -- the sides in bytes,
+pub mod OneSide
 pub mod Seen
 pub mod SidesInBytes
 pub mod KeptNodes

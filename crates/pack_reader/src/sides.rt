@@ -3,49 +3,68 @@ use records::Answer;
 use records::Refusal;
 ghost use mathlib.Core.Path.{_≡_};
 ghost use Prim.Native.Nat.{_≤_, _<_};
-ghost use lib.ListN.{length};
+ghost use mathlib.Core.Bool.{true, false};
+ghost use lib.ListN.{length, replicate};
 ghost use Rattle.records.specs.Answers.{outcome-of};
-ghost use Rattle.terms.specs.Kept.{part};
+ghost use Rattle.terms.specs.Kept.{balanced, part};
 ghost use Rattle.pack_reader.specs.Stored.{all-seen, Seen-in, rule-judged};
 
-// Marks of the variables among the nodes.
-fn variables_seen(nodes: &[u8], from: usize, to: usize) -> [bool; 16]
-    requires { ⌜ (from ≤ to) × (to ≤ length (now nodes)) ⌝ }
-    ensures { λ r. ⌜ (length r ≡ 16) × Seen-in (part (now (nodes .entry)) from to) r ⌝ }
-{
-    let mut seen = [false; 16];
-    let mut i = from;
-    while i < to {
-        let c = nodes[i] as usize;
-        if 64 <= c {
-            if c < 80 {
-                seen[c - 64] = true;
-            }
-        }
-        i = i + 1;
-    }
-    seen
+// What a right side is: exactly one term or not, and each variable in it marked or not.
+pub struct RightSide {
+    pub one: bool,
+    pub closed: bool,
 }
 
-// Each variable among the nodes has a mark.
-fn each_seen(nodes: &[u8], from: usize, to: usize, seen: [bool; 16]) -> bool
-    requires { ⌜ (from ≤ to) × (to ≤ length (now nodes)) ⌝ }
-    ensures { λ r. ⌜ r ≡ all-seen seen (part (now (nodes .entry)) from to) ⌝ }
+// Marks the variables of a left side, and says whether its nodes are exactly one term: one pass for both.
+fn left_side(arities: &[u8], nodes: &[u8], from: usize, to: usize, seen: &mut [bool]) -> bool
+    requires { ⌜ (length (now arities) ≡ 64) × (from ≤ to) × (to ≤ length (now nodes)) × (to ≤ 65536) × (now seen ≡ replicate 16 false) ⌝ }
+    ensures { λ r. ⌜ (r ≡ balanced (now (arities .entry)) 1 (part (now (nodes .entry)) from to)) × (length (now (seen .exit)) ≡ 16) × (r ≡ true → Seen-in (part (now (nodes .entry)) from to) (now (seen .exit))) ⌝ }
 {
+    let mut wanted = 1;
     let mut i = from;
     while i < to {
-        let c = nodes[i] as usize;
-        if 80 <= c {
+        if wanted == 0 {
             return false;
         }
-        if 64 <= c {
-            if !seen[c - 64] {
-                return false;
-            }
+        let c = nodes[i] as usize;
+        if c < 64 {
+            wanted = wanted + arities[c] as usize;
+        } else if c < 80 {
+            seen[c - 64] = true;
         }
+        wanted = wanted - 1;
         i = i + 1;
     }
-    true
+    wanted == 0
+}
+
+// Compares a right side with the marks of the left: one pass for both answers.
+fn right_side(arities: &[u8], nodes: &[u8], from: usize, to: usize, seen: &[bool]) -> RightSide
+    requires { ⌜ (length (now arities) ≡ 64) × (from ≤ to) × (to ≤ length (now nodes)) × (to ≤ 65536) × (length (now seen) ≡ 16) ⌝ }
+    ensures { λ r. ⌜ (r .one ≡ balanced (now (arities .entry)) 1 (part (now (nodes .entry)) from to)) × (r .one ≡ true → r .closed ≡ all-seen (now (seen .entry)) (part (now (nodes .entry)) from to)) ⌝ }
+{
+    let mut wanted = 1;
+    let mut closed = true;
+    let mut i = from;
+    while i < to {
+        if wanted == 0 {
+            return RightSide { one: false, closed };
+        }
+        let c = nodes[i] as usize;
+        if c < 64 {
+            wanted = wanted + arities[c] as usize;
+        } else if 80 <= c {
+            closed = false;
+        } else if !seen[c - 64] {
+            closed = false;
+        }
+        wanted = wanted - 1;
+        i = i + 1;
+    }
+    RightSide {
+        one: wanted == 0,
+        closed,
+    }
 }
 
 // A rule after its last node: 4, 5, 6.
@@ -53,16 +72,18 @@ pub fn judge_rule(arities: &[u8], nodes: &[u8], left: usize, right: usize, end: 
     requires { ⌜ (length (now arities) ≡ 64) × (left < right) × (right ≤ end) × (end ≤ length (now nodes)) × (end ≤ 65536) ⌝ }
     ensures { λ r. ⌜ outcome-of r ≡ rule-judged (now (arities .entry)) (part (now (nodes .entry)) left right) (part (now (nodes .entry)) right end) ⌝ }
 {
-    if !terms::is_one_term(arities, nodes, left, right) {
+    let mut seen = [false; 16];
+    if !left_side(arities, nodes, left, right, &mut seen) {
         return Answer::Refused(Refusal::BrokenSide);
     }
-    if !terms::is_one_term(arities, nodes, right, end) {
+    let r = right_side(arities, nodes, right, end, &seen);
+    if !r.one {
         return Answer::Refused(Refusal::BrokenSide);
     }
     if 64 <= nodes[left] {
         return Answer::Refused(Refusal::BareLeft);
     }
-    if each_seen(nodes, right, end, variables_seen(nodes, left, right)) {
+    if r.closed {
         return Answer::Passed(0);
     }
     Answer::Refused(Refusal::LooseVariable)

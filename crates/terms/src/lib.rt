@@ -3,7 +3,7 @@ ghost use mathlib.Core.Path.{_≡_};
 ghost use Prim.Native.Nat.{_+_, _≤_, _<_};
 ghost use lib.ListN.{length};
 ghost use Rattle.terms.specs.Sides.{flat};
-ghost use Rattle.terms.specs.Kept.{code-arity, balanced, part, Term-at};
+ghost use Rattle.terms.specs.Kept.{code-arity, Term-at};
 
 // A plain symbol, and the tuple symbol (document 01: marked symbol) of a defined one: never taken for each other.
 pub struct Symbol(pub u16);
@@ -20,23 +20,6 @@ pub fn code_arity(arities: &[u8], code: u8) -> usize
         return arities[c] as usize;
     }
     0
-}
-
-// The nodes are exactly one term.
-pub fn is_one_term(arities: &[u8], nodes: &[u8], from: usize, to: usize) -> bool
-    requires { ⌜ (length (now arities) ≡ 64) × (from ≤ to) × (to ≤ length (now nodes)) × (to ≤ 65536) ⌝ }
-    ensures { λ r. ⌜ r ≡ balanced (now (arities .entry)) 1 (part (now (nodes .entry)) from to) ⌝ }
-{
-    let mut wanted = 1;
-    let mut i = from;
-    while i < to {
-        if wanted == 0 {
-            return false;
-        }
-        wanted = wanted - 1 + code_arity(arities, nodes[i]);
-        i = i + 1;
-    }
-    wanted == 0
 }
 
 // The place after the term that is kept at `at`.

@@ -30,53 +30,61 @@ module _ (ar ns : List ℕ) (left right end : ℕ) (l : balanced ar 1 (part ns l
   unfolding rule-judged
   bare-left e = rw (l, r, part-more ns left right h k, le-ltb _ _ e)
 
-  by-variables : getD ns left 0 < 64 → (sn : List Bool) (b : Bool) → b ≡ all-seen sn (part ns right end) → (length sn ≡ 16) × Seen-in (part ns left right) sn
+  by-variables : getD ns left 0 < 64 → (sn : List Bool) (b : Bool) → b ≡ all-seen sn (part ns right end) → length sn ≡ 16 → Seen-in (part ns left right) sn
       → cond b (passed 0) (refused 6) ≡ rule-judged ar (part ns left right) (part ns right end)
   unfolding rule-judged
-  by-variables e sn b all seen =
+  by-variables e sn b all long seen =
       let first : getD (part ns left right) 0 0 ≡ getD ns left 0 = rw (part-more ns left right h k) in
-      rw (l, r, first, lt-ltb _ _ e, all, seen-variables sn (seen .0) (part ns left right) (seen .1) (part ns right end))
+      rw (l, r, first, lt-ltb _ _ e, all, seen-variables sn long (part ns left right) seen (part ns right end))
 
 returns : tie.Need-returns
-returns c = left-broken _ _ _ (sym (c .before .is-one-term .ensures) ∙ not-true _ (c .if1 .taken))
+returns c = left-broken _ _ _ (sym (c .before .before .left-side .ensures .0) ∙ not-true _ (c .if1 .taken))
 
 returns-2 : tie.Need-returns-2
 returns-2 c =
-    let l = c .before .before in
+    let r = c .before .before in
+    let l = r .before .before in
     right-broken _ _ _
-    (sym (l .before .is-one-term .ensures) ∙ not-false _ (l .if1 .left))
-    (sym (c .before .is-one-term2 .ensures) ∙ not-true _ (c .if2 .taken))
+    (sym (l .before .before .left-side .ensures .0) ∙ not-false _ (l .if1 .left))
+    (sym (r .right-side .ensures .0) ∙ not-true _ (c .if2 .taken))
 
 returns-3 : tie.Need-returns-3
 returns-3 c =
-    let r = c .before .before in
+    let e = c .before .before in
+    let r = e .before .before in
     let l = r .before .before in
     bare-left _ _ _ _ _
-    (sym (l .before .is-one-term .ensures) ∙ not-false _ (l .if1 .left))
-    (sym (r .before .is-one-term2 .ensures) ∙ not-false _ (r .if2 .left))
+    (sym (l .before .before .left-side .ensures .0) ∙ not-false _ (l .if1 .left))
+    (sym (r .right-side .ensures .0) ∙ not-false _ (e .if2 .left))
     (omega arith)
     (omega arith)
     (c .if3 .taken)
 
 -- both sides are terms and the left is no variable: the marks decide
-judged : (c : tie.After-each-seen)
-    → let a = c .before .before .before .before .before .before .before .before .before .before .args in
-    cond (c .each-seen .result) (passed 0) (refused 6)
+judged : (c : tie.Else3)
+    → let r = c .before .before .before .before in
+    let a = r .before .before .before .before .before .before .before .before .args in
+    cond (r .right-side .result .closed) (passed 0) (refused 6)
     ≡ rule-judged (a .arities .now) (part (a .nodes .now) (a .left) (a .right)) (part (a .nodes .now) (a .right) (a .end))
 judged c =
-    let b = c .before .before in
-    let r = b .before .before in
+    let e = c .before .before in
+    let r = e .before .before in
     let l = r .before .before in
+    let s = l .before .before .left-side in
+    let one = not-false _ (l .if1 .left) in
+    let other = not-false _ (e .if2 .left) in
+    let p = l .before .before .before .before .before .before .pre in
     by-variables _ _ _ _ _
-    (sym (l .before .is-one-term .ensures) ∙ not-false _ (l .if1 .left))
-    (sym (r .before .is-one-term2 .ensures) ∙ not-false _ (r .if2 .left))
-    (omega arith)
-    (omega arith)
-    (b .if3 .left)
-    (c .before .variables-seen .result)
-    (c .each-seen .result)
-    (c .each-seen .ensures)
-    (c .before .variables-seen .ensures)
+    (sym (s .ensures .0) ∙ one)
+    (sym (r .right-side .ensures .0) ∙ other)
+    (p .1)
+    (omega (arith, p .2, p .3))
+    (c .if3 .left)
+    _
+    _
+    (r .right-side .ensures .1 other)
+    (s .ensures .1)
+    (s .ensures .2 one)
 
 returns-4 : tie.Need-returns-4
 returns-4 c = rw (c .if4 .taken) at (judged (c .before))
@@ -88,13 +96,13 @@ pub judge-rule-spec : {M : Type 1} → statement M
 judge-rule-spec =
     tie.close
     (tie.spec
+    (λ c. search needs)
     (λ c κs. search needs)
     returns
+    (λ c. search needs)
     (λ c κs. search needs)
     returns-2
     (λ c. search needs)
     returns-3
-    (λ c κs. search needs)
-    (λ c κs. search needs)
     returns-4
     returns-5)
