@@ -1,15 +1,15 @@
 -- What the weights' functions ask of the arrays holds of a pack that was read: the sides of its rules and of its pairs are kept
 -- there as terms that can be weighed.
 use mathlib.Core.Path.{_≡_, refl, sym, ap, _∙_}
-use mathlib.Core.Bool.{true, not}
+use mathlib.Core.Bool.{true, false, not}
 use mathlib.Core.List.{List}
 use Prim.Native.Nat.{ℕ, _+_, _*_, _≤_, _<_}
 use native.Mathlib.Omega.{arith}
 use lib.ListN.{length, getD, take, length-append}
-use Rattle.rewriting.specs.Terms.{Tree, var, app, nil, cons, System, rule, is-term}
-use Rattle.rewriting.specs.Pairs.{Pair, subterms, defined-root, pair-left, pair-right, is-pair}
+use Rattle.rewriting.specs.Terms.{Tree, var, app, nil, cons, System, rule, no-rule, is-term}
+use Rattle.rewriting.specs.Pairs.{Pair, subterms, arguments, defined-root, pair-left, pair-right, is-pair}
 use Rattle.rewriting.specs.Systems.{is-app, variables-below}
-use Rattle.rewriting.proofs.Basics.{Each, each-nil, each-cons, each-append, each-map}
+use Rattle.rewriting.proofs.Basics.{or-left-false, or-right-false, Each, each-nil, each-cons, each-append, each-map}
 use Rattle.rewriting.proofs.Pairs.{pair-rule, pair-place, pair-defined, pair-right-has, pair-right-term, pair-right-small}
 use Rattle.terms.specs.Sides.{flat}
 use Rattle.terms.specs.Kept.{Kept}
@@ -17,7 +17,9 @@ use Rattle.pack_reader.specs.Stored.{Stored}
 use Rattle.pair_finder.proofs.FromStore.{stored-rule, subterm-at}
 use Rattle.weights.specs.declared.Verdict.{Verdict}
 use Rattle.polynomials.specs.Polynomials.{Weight, Weighting}
-use Rattle.polynomials.specs.Judging.{rule-over, rule-rises, call-over, call-falls}
+use Rattle.polynomials.specs.Limit.{over}
+use Rattle.polynomials.proofs.Lists.{mem-at, any-false-mem}
+use Rattle.polynomials.specs.Judging.{any, rule-over, rule-rises, call-over, call-falls}
 use Rattle.weights.specs.Working.{Weighable, Applied, verdict}
 use Rattle.judging.specs.Judge.{call}
 
@@ -40,6 +42,33 @@ defined-applied p (var v) h = h
 defined-applied p (app f ts) h = refl
 defined-applied p nil h = h
 defined-applied p (cons t ts) h = h
+
+-- WHAT STANDS BELOW A ROOT, where the term is within the limit
+
+arguments-within : (ws : List Weight) (t : Tree) → over ws t ≡ false → over ws (arguments t) ≡ false
+unfolding over arguments
+arguments-within ws (var v) h = refl
+arguments-within ws (app f ts) h = or-left-false (over ws ts) _ h
+arguments-within ws nil h = refl
+arguments-within ws (cons t ts) h = refl
+
+subterms-within : (ws : List Weight) (t : Tree) → over ws t ≡ false → Each (λ u. over ws (arguments u) ≡ false) (subterms t)
+unfolding over subterms arguments
+subterms-within ws (var v) h = each-cons (var v) _ refl each-nil
+subterms-within ws (app f ts) h =
+    let below = or-left-false (over ws ts) _ h in
+    each-cons (app f ts) _ below (subterms-within ws ts below)
+subterms-within ws nil h = each-nil
+subterms-within ws (cons t ts) h =
+    each-append (subterms-within ws t (or-left-false (over ws t) (over ws ts) h)) (subterms-within ws ts (or-right-false (over ws t) (over ws ts) h))
+
+rule-within :
+    (p : System) (ws vs : List Weight) (i : ℕ) → i < length (p .rules) → any (rule-over (weighting ws vs)) (p .rules) ≡ false →
+    (over ws (rule p i .left) ≡ false) × (over ws (rule p i .right) ≡ false)
+unfolding rule rule-over
+rule-within p ws vs i h none =
+    let r = any-false-mem (rule-over (weighting ws vs)) (mem-at no-rule (p .rules) i h) none in
+    (or-left-false (over ws (rule p i .left)) (over ws (rule p i .right)) r, or-right-false (over ws (rule p i .left)) (over ws (rule p i .right)) r)
 
 module _ {p : System} {symbols rules : ℕ} {ar ss ns ms : List ℕ} (s : Stored p symbols rules ar ss ns ms) where
   stored-arities : take (length (p .arities)) ar ≡ p .arities
@@ -110,9 +139,13 @@ module _ {p : System} {symbols rules : ℕ} {ar ss ns ms : List ℕ} (s : Stored
 
     -- what is answered of the terms kept there is said of the pair
     pub call-answer :
-        (ws vs : List Weight) {x : Verdict} →
+        (ws vs : List Weight) {x : Verdict} → any (rule-over (weighting ws vs)) (p .rules) ≡ false →
         ((l : Applied ar ns (getD ss (2 * q .at-rule) 0)) (m : Applied ar ns (getD ss (2 * q .at-rule + 1) 0 + q .place)) →
+        over ws (arguments (l .side .term)) ≡ false → over ws (arguments (m .side .term)) ≡ false →
         x ≡ verdict (call-over (weighting ws vs) (record { left = l .side .term; right = m .side .term })) (call-falls (weighting ws vs) (record { left = l .side .term; right = m .side .term }))) →
         x ≡ verdict (call-over (weighting ws vs) (call p q)) (call-falls (weighting ws vs) (call p q))
     unfolding left-applied right-applied left-weighable call pair-left
-    call-answer ws vs answer = answer left-applied right-applied
+    call-answer ws vs none answer =
+        let within = rule-within p ws vs (q .at-rule) (pair-rule p q is) none in
+        answer left-applied right-applied (arguments-within ws (rule p (q .at-rule) .left) (within .0))
+        (pair-right-has p q is (subterms-within ws (rule p (q .at-rule) .right) (within .1)))

@@ -133,3 +133,8 @@ module _ (w : Weighting) where
   unfolding weightings-refusal
   chosen-number rs cs next =
       by-tests (any (rule-over w) rs) (any (rule-rises w) rs) (any (call-over w) cs) (calls-hold cs) (any (call-rises w) cs) next (none-rises cs)
+
+-- what is not over has no part that is
+pub not-over : (v : Verdict) (passes holds : Bool) → v ≡ verdict passes holds → (v ≡ Over → ⊥) → passes ≡ false
+not-over v true holds e h = absurd (h (e ∙ verdict-over true holds .1 refl))
+not-over v false holds e h = refl

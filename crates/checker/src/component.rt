@@ -3,6 +3,7 @@ use records::Answer;
 use records::Refusal;
 use weights::Verdict;
 ghost use mathlib.Core.Path.{_≡_};
+ghost use mathlib.Core.Bool.{false};
 ghost use mathlib.Core.List.{List};
 ghost use Prim.Native.Nat.{ℕ, _+_, _%_, _≤_, _<_};
 ghost use lib.ListN.{length, replicate};
@@ -13,6 +14,7 @@ ghost use Rattle.records.specs.Outcomes.{refusal};
 ghost use Rattle.records.specs.Answers.{outcome-of};
 ghost use Rattle.records.specs.Order.{W-weight, M-marked};
 ghost use Rattle.polynomials.specs.Polynomials.{Weight};
+ghost use Rattle.polynomials.specs.Judging.{any, rule-over};
 ghost use Rattle.weights.specs.Working.{Table-is};
 ghost use Rattle.certificates.specs.Components.{Component};
 ghost use Rattle.judging.specs.Judge.{components-refusal, plain};
@@ -51,8 +53,9 @@ fn refill(certificate: &[u8], before: usize, from: usize, table: &mut [u16]) -> 
     crate::weighing::fill(certificate, from, b'W', table)
 }
 
-// The pairs from record `from` on under the table and the M records from record `middle` on, and what they and the rules come to.
-fn judge_marked(
+// The pairs from record `from` on under the table and the M records from record `middle` on, and what they and the rules come to,
+// where no rule is over.
+fn judge_calls(
     certificate: &[u8],
     from: usize,
     count: usize,
@@ -67,7 +70,7 @@ fn judge_marked(
     rules: usize,
 ) -> Answer
     requires { ⌜ (length (now certificate) % 8 ≡ 0) × (length (now certificate) ≤ 24576) × Kept-pack rules (now arities) (now starts) (now nodes) (now marks) × (now marked ≡ replicate 576 0) × (length (now table) ≡ 576) × ((p : System) × (symbols : ℕ) × (qs : List Pair) × (ms : List Weight) × Stored p symbols rules (now arities) (now starts) (now nodes) (now marks) × All-pairs p qs × Pairs-at (now certificate) from qs × (length qs ≡ count) × Weights-at (now certificate) middle M-marked ms) ⌝ }
-    ensures { λ r. ⌜ (now (marked .exit) ≡ replicate 576 0) × ((p : System) (symbols : ℕ) (qs : List Pair) (ws ms : List Weight) → Stored p symbols rules (now (arities .entry)) (now (starts .entry)) (now (nodes .entry)) (now (marks .entry)) → All-pairs p qs → Pairs-at (now (certificate .entry)) from qs → length qs ≡ count → Weights-at (now (certificate .entry)) middle M-marked ms → Table-is (now (table .entry)) ws → outcome-of r ≡ chosen verdict (calls-verdict p qs ws ms) (middle + length ms)) ⌝ }
+    ensures { λ r. ⌜ (now (marked .exit) ≡ replicate 576 0) × ((p : System) (symbols : ℕ) (qs : List Pair) (ws ms : List Weight) → Stored p symbols rules (now (arities .entry)) (now (starts .entry)) (now (nodes .entry)) (now (marks .entry)) → All-pairs p qs → Pairs-at (now (certificate .entry)) from qs → length qs ≡ count → Weights-at (now (certificate .entry)) middle M-marked ms → Table-is (now (table .entry)) ws → any (rule-over (record { weights = ws; marked = ms })) (p .rules) ≡ false → outcome-of r ≡ chosen verdict (calls-verdict p qs ws ms) (middle + length ms)) ⌝ }
 {
     let next = crate::weighing::fill(certificate, middle, b'M', marked);
     let c = crate::weighing::judge_pairs(
@@ -84,6 +87,57 @@ fn judge_marked(
     );
     crate::weighing::clear(certificate, middle, b'M', marked);
     choose(verdict, c, next)
+}
+
+// The same by the verdict on the rules: pairs are judged only where no rule is over.
+fn judge_marked(
+    certificate: &[u8],
+    from: usize,
+    count: usize,
+    middle: usize,
+    verdict: Verdict,
+    arities: &[u8],
+    marked: &mut [u16],
+    table: &[u16],
+    starts: &[u16],
+    nodes: &[u8],
+    marks: &[u8],
+    rules: usize,
+) -> Answer
+    requires { ⌜ (length (now certificate) % 8 ≡ 0) × (length (now certificate) ≤ 24576) × Kept-pack rules (now arities) (now starts) (now nodes) (now marks) × (now marked ≡ replicate 576 0) × (length (now table) ≡ 576) × ((p : System) × (symbols : ℕ) × (qs : List Pair) × (ms : List Weight) × Stored p symbols rules (now arities) (now starts) (now nodes) (now marks) × All-pairs p qs × Pairs-at (now certificate) from qs × (length qs ≡ count) × Weights-at (now certificate) middle M-marked ms) ⌝ }
+    ensures { λ r. ⌜ (now (marked .exit) ≡ replicate 576 0) × ((p : System) (symbols : ℕ) (qs : List Pair) (ws ms : List Weight) → Stored p symbols rules (now (arities .entry)) (now (starts .entry)) (now (nodes .entry)) (now (marks .entry)) → All-pairs p qs → Pairs-at (now (certificate .entry)) from qs → length qs ≡ count → Weights-at (now (certificate .entry)) middle M-marked ms → Table-is (now (table .entry)) ws → ((verdict ≡ Verdict.Over → ⊥) → any (rule-over (record { weights = ws; marked = ms })) (p .rules) ≡ false) → outcome-of r ≡ chosen verdict (calls-verdict p qs ws ms) (middle + length ms)) ⌝ }
+{
+    match verdict {
+        Verdict::Over => Answer::Refused(Refusal::Heavy),
+        Verdict::Fails => judge_calls(
+            certificate,
+            from,
+            count,
+            middle,
+            Verdict::Fails,
+            arities,
+            marked,
+            table,
+            starts,
+            nodes,
+            marks,
+            rules,
+        ),
+        Verdict::Holds => judge_calls(
+            certificate,
+            from,
+            count,
+            middle,
+            Verdict::Holds,
+            arities,
+            marked,
+            table,
+            starts,
+            nodes,
+            marks,
+            rules,
+        ),
+    }
 }
 
 // A component with a weighting, whose C record is record `at`: 11, 12, 13. Answers the record after it. The rules are not judged

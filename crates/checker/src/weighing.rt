@@ -2,7 +2,7 @@
 use records::Record;
 use weights::Verdict;
 ghost use mathlib.Core.Path.{_≡_};
-ghost use mathlib.Core.Bool.{true, not};
+ghost use mathlib.Core.Bool.{true, false, not};
 ghost use mathlib.Core.List.{List};
 ghost use Prim.Native.Nat.{ℕ, _+_, _%_, _≤_, _<_};
 ghost use lib.ListN.{length, replicate};
@@ -150,8 +150,8 @@ pub fn judge_rules(
     Verdict::Holds
 }
 
-// The pairs whose records stand from record `from` on: over if one is, else failing if one does not fall. The left side is worked
-// out once for consecutive pairs of a rule.
+// The pairs whose records stand from record `from` on, where no rule is over: over if one is, else failing if one does not fall.
+// The left side is worked out once for consecutive pairs of a rule.
 pub fn judge_pairs(
     certificate: &[u8],
     from: usize,
@@ -165,16 +165,14 @@ pub fn judge_pairs(
     rules: usize,
 ) -> Verdict
     requires { ⌜ (length (now certificate) % 8 ≡ 0) × (length (now certificate) ≤ 24576) × Kept-pack rules (now arities) (now starts) (now nodes) (now marks) × (length (now marked) ≡ 576) × (length (now table) ≡ 576) × ((p : System) × (symbols : ℕ) × (qs : List Pair) × Stored p symbols rules (now arities) (now starts) (now nodes) (now marks) × All-pairs p qs × Pairs-at (now certificate) from qs × (length qs ≡ count)) ⌝ }
-    ensures { λ r. ⌜ ((p : System) (symbols : ℕ) (qs : List Pair) (ws ms : List Weight) → Stored p symbols rules (now (arities .entry)) (now (starts .entry)) (now (nodes .entry)) (now (marks .entry)) → All-pairs p qs → Pairs-at (now (certificate .entry)) from qs → length qs ≡ count → Table-is (now (table .entry)) ws → Table-is (now (marked .entry)) ms → r ≡ verdict (any (call-over (record { weights = ws; marked = ms })) (calls p qs)) (is-none (without (call-falls (record { weights = ws; marked = ms })) (calls p qs)))) ⌝ }
+    ensures { λ r. ⌜ ((p : System) (symbols : ℕ) (qs : List Pair) (ws ms : List Weight) → Stored p symbols rules (now (arities .entry)) (now (starts .entry)) (now (nodes .entry)) (now (marks .entry)) → All-pairs p qs → Pairs-at (now (certificate .entry)) from qs → length qs ≡ count → Table-is (now (table .entry)) ws → Table-is (now (marked .entry)) ms → any (rule-over (record { weights = ws; marked = ms })) (p .rules) ≡ false → r ≡ verdict (any (call-over (record { weights = ws; marked = ms })) (calls p qs)) (is-none (without (call-falls (record { weights = ws; marked = ms })) (calls p qs)))) ⌝ }
 {
-    let mut known = weights::stack::Spreading {
+    let mut known = weights::sparse::Gathered {
         through: false,
         constant: 0,
-        bound: 0,
     };
     let mut sums = [0u64; 16];
     let mut factors = [0u64; 32];
-    let mut bounds = [0u64; 32];
     let mut last = 65536;
     let mut failed = false;
     let mut i = 0;
@@ -192,7 +190,6 @@ pub fn judge_pairs(
                 left,
                 &mut sums,
                 &mut factors,
-                &mut bounds,
             );
             last = rule;
         }
@@ -206,7 +203,6 @@ pub fn judge_pairs(
             known,
             &sums,
             &mut factors,
-            &mut bounds,
         ) {
             Verdict::Over => {
                 return Verdict::Over;

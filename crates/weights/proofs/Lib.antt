@@ -9,5 +9,8 @@ pub mod Gathering
 pub mod Stacked
 pub mod Bounds
 pub mod Visiting
+pub mod Passing
+pub mod Skipping
 pub mod Siding
 pub mod Spreading
+pub mod Lower

@@ -84,7 +84,7 @@ module _ (arities nodes : List ℕ) (at : ℕ) (w : Weighable arities nodes at 3
         is =
             found .0
             ∙ ap (λ (l : List ℕ). stacked fs' m (polynomials ws ts) (polynomial own l)) z
-            ∙ root-stacked (w .system) fs gs fs' gs' f m ts rs ws root low few-come (are .list) (are .is-well) many r pushed
+            ∙ root-stacked (w .system) fs fs' f m ts rs ws root low few-come (are .list) (are .is-well) many r (pushed .factors-pushed)
             ∙ sym (ap (rooted rs ws) (below .applied));
       }
 

@@ -14,7 +14,7 @@ use Rattle.terms.proofs.Rests.{joined, others-list}
 use Rattle.polynomials.specs.declared.Polynomial.{Polynomial}
 use Rattle.polynomials.specs.Polynomials.{Weight, weight, polynomial, no-coefficients, scaled-sum, summed, combined, polynomials}
 use Rattle.polynomials.proofs.Meaning.{Sixteen, combined-sixteen, polynomials-sixteen}
-use Rattle.weights.specs.Working.{Table-is, rooted, added, stacked, Pushed}
+use Rattle.weights.specs.Working.{Table-is, rooted, added, stacked, Pushed-factors}
 use Rattle.weights.proofs.Working.{polynomials-cons}
 use Rattle.weights.proofs.Gathering.{scaled-none, one-slot, scaled-twice, added-long, scaled-once}
 
@@ -22,7 +22,7 @@ use Rattle.weights.proofs.Gathering.{scaled-none, one-slot, scaled-twic
 
 module _ (p : System) (ws : List Weight) where
   -- one for each term
-  polynomials-long : (ts : Tree) → is-list ts ≡ true → well p ts ≡ true → length (polynomials ws ts) ≡ width ts
+  pub polynomials-long : (ts : Tree) → is-list ts ≡ true → well p ts ≡ true → length (polynomials ws ts) ≡ width ts
   unfolding polynomials is-list width
   polynomials-long (var v) l h = absurd (false≢true l)
   polynomials-long (app f ts) l h = absurd (false≢true l)
@@ -113,12 +113,12 @@ variable-next fs n v us ws c sums h l =
 
 -- the arguments of a symbol, on top of n others
 pushed-stacked :
-    (fs gs fs' gs' : List ℕ) (n f m k b : ℕ) (ts : Tree) (rs ws : List Weight) (table : List ℕ) (c : ℕ) (sums : List ℕ) →
-    f < 64 → m ≤ 8 → length (polynomials ws ts) ≡ m → length sums ≡ 16 → Table-is table rs → Pushed table f m k b n fs gs fs' gs' →
+    (fs fs' : List ℕ) (n f m k : ℕ) (ts : Tree) (rs ws : List Weight) (table : List ℕ) (c : ℕ) (sums : List ℕ) →
+    f < 64 → m ≤ 8 → length (polynomials ws ts) ≡ m → length sums ≡ 16 → Table-is table rs → Pushed-factors table f m k n fs fs' →
     stacked fs' (n + m) (polynomials ws ts) (polynomial (c + k * getD table (9 * f) 0) sums)
     ≡ added k (combined rs f (polynomials ws ts)) (polynomial c sums)
 unfolding combined
-pushed-stacked fs gs fs' gs' n f m k b ts rs ws table c sums small few many long t pushed =
+pushed-stacked fs fs' n f m k ts rs ws table c sums small few many long t pushed =
     let xs = polynomials ws ts in
     let own : getD table (9 * f) 0 ≡ weight rs f 0 = rw add-zero at (t .are f 0 small (omega arith)) in
     ap (λ a. stacked fs' (n + m) xs (polynomial (c + k * a) sums)) own
@@ -132,14 +132,14 @@ pushed-stacked fs gs fs' gs' n f m k b ts rs ws table c sums small few many long
 
 -- a symbol is next: its factor times its constant is added, and its arguments are next
 pub symbol-next :
-    (p : System) (fs gs fs' gs' : List ℕ) (n f m : ℕ) (ts us : Tree) (ws : List Weight) (table : List ℕ) (c : ℕ) (sums : List ℕ) →
+    (p : System) (fs fs' : List ℕ) (n f m : ℕ) (ts us : Tree) (ws : List Weight) (table : List ℕ) (c : ℕ) (sums : List ℕ) →
     0 < n → f < 64 → m ≤ 8 → is-list ts ≡ true → well p ts ≡ true → width ts ≡ m →
     is-list us ≡ true → well p us ≡ true → width us ≡ n - 1 → length sums ≡ 16 → Table-is table ws →
-    Pushed table f m (getD fs (n - 1) 0) (getD gs (n - 1) 0) (n - 1) fs gs fs' gs' →
+    Pushed-factors table f m (getD fs (n - 1) 0) (n - 1) fs fs' →
     stacked fs n (polynomials ws (cons (app f ts) us)) (polynomial c sums)
     ≡ stacked fs' (n - 1 + m) (polynomials ws (joined ts us)) (polynomial (c + getD fs (n - 1) 0 * getD table (9 * f) 0) sums)
 unfolding polynomials stacked
-symbol-next p fs gs fs' gs' n f m ts us ws table c sums some small few list is-well many list-after well-after many-after long t pushed =
+symbol-next p fs fs' n f m ts us ws table c sums some small few list is-well many list-after well-after many-after long t pushed =
     let xs = polynomials ws ts in
     let ys = polynomials ws us in
     let k = getD fs (n - 1) 0 in
@@ -147,22 +147,22 @@ symbol-next p fs gs fs' gs' n f m ts us ws table c sums some small few list is-w
     let as-many : length xs ≡ m = polynomials-long p ws ts list is-well ∙ many in
     let as-many-after : length ys ≡ n - 1 = polynomials-long p ws us list-after well-after ∙ many-after in
     stacked-same fs fs' (n - 1) ys _ (omega arith) (pushed .old-factors)
-    ∙ ap (stacked fs' (n - 1) ys) (sym (pushed-stacked fs gs fs' gs' (n - 1) f m k _ ts ws ws table c sums small few as-many long t pushed))
+    ∙ ap (stacked fs' (n - 1) ys) (sym (pushed-stacked fs fs' (n - 1) f m k ts ws ws table c sums small few as-many long t pushed))
     ∙ sym (stacked-append fs' (n - 1 + m) (n - 1) xs ys y (omega arith))
     ∙ ap (λ (zs : List Polynomial). stacked fs' (n - 1 + m) zs y) (sym (polynomials-joined p ws ts us list is-well))
 
 -- at the root: its arguments alone are on the stacks, and what there is already is its own constant
 pub root-stacked :
-    (p : System) (fs gs fs' gs' : List ℕ) (f m : ℕ) (ts : Tree) (rs ws : List Weight) (table : List ℕ) →
+    (p : System) (fs fs' : List ℕ) (f m : ℕ) (ts : Tree) (rs ws : List Weight) (table : List ℕ) →
     f < 64 → m ≤ 8 → is-list ts ≡ true → well p ts ≡ true → width ts ≡ m → Table-is table rs →
-    Pushed table f m 1 1 0 fs gs fs' gs' →
+    Pushed-factors table f m 1 0 fs fs' →
     stacked fs' m (polynomials ws ts) (polynomial (getD table (9 * f) 0) (replicate 16 0)) ≡ rooted rs ws (app f ts)
 unfolding rooted
-root-stacked p fs gs fs' gs' f m ts rs ws table small few list is-well many t pushed =
+root-stacked p fs fs' f m ts rs ws table small few list is-well many t pushed =
     let xs = polynomials ws ts in
     let own = getD table (9 * f) 0 in
     ap₂ (λ n a. stacked fs' n xs (polynomial a (replicate 16 0)))
     (let z : m ≡ 0 + m = omega arith in z)
     (let z : own ≡ 0 + 1 * own = omega arith in z)
-    ∙ pushed-stacked fs gs fs' gs' 0 f m 1 1 ts rs ws table 0 (replicate 16 0) small few (polynomials-long p ws ts list is-well ∙ many) refl t pushed
+    ∙ pushed-stacked fs fs' 0 f m 1 ts rs ws table 0 (replicate 16 0) small few (polynomials-long p ws ts list is-well ∙ many) refl t pushed
     ∙ added-once (combined rs f xs) (combined-sixteen rs f (polynomials-sixteen ws ts))

@@ -16,7 +16,7 @@ use Rattle.terms.specs.Kept.{code, code-arity}
 use Rattle.terms.proofs.Parsing.{well-app, well-cons, flat-positive}
 use Rattle.terms.proofs.Rests.{Rest, joined, joined-flat, joined-list, joined-width, joined-well, kept-first, kept-others, symbol-arity}
 use Rattle.polynomials.specs.Polynomials.{Weight, polynomial, polynomials}
-use Rattle.weights.specs.Working.{Table-is, term-bounds, stacked, stacked-bound, Stacks, Pushed, Coming}
+use Rattle.weights.specs.Working.{Table-is, term-bounds, stacked, stacked-bound, Stacks, Pushed-factors, Pushed, Coming}
 use Rattle.weights.proofs.Stacked.{variable-next, symbol-next}
 use Rattle.weights.proofs.Bounds.{variable-bound, symbol-bound}
 
@@ -49,29 +49,29 @@ data First (nodes : List ℕ) (at : ℕ) : Tree → Type 0 where
   first-symbol : (f : ℕ) (ts us : Tree) → getD nodes at 0 ≡ f → First nodes at (cons (app f ts) us)
 
 -- a variable, and the other terms after it
-record Variable-first (p : System) (nodes : List ℕ) (at n : ℕ) (terms : Tree) : Type 0 where
-  others : Tree
-  are : terms ≡ cons (var (getD nodes at 0 - 64)) others
-  low : getD nodes at 0 - 64 < 16
-  rest : Rest p nodes (at + 1) (n - 1) others
-  small : variables-below 16 others ≡ true
-  fewer : length (flat terms) ≡ 1 + length (flat others)
+pub record Variable-first (p : System) (nodes : List ℕ) (at n : ℕ) (terms : Tree) : Type 0 where
+  pub others : Tree
+  pub are : terms ≡ cons (var (getD nodes at 0 - 64)) others
+  pub low : getD nodes at 0 - 64 < 16
+  pub rest : Rest p nodes (at + 1) (n - 1) others
+  pub small : variables-below 16 others ≡ true
+  pub fewer : length (flat terms) ≡ 1 + length (flat others)
 
 -- a symbol with its m arguments, and the other terms after it
-record Symbol-first (p : System) (nodes : List ℕ) (at n m : ℕ) (terms : Tree) : Type 0 where
-  arguments : Tree
-  others : Tree
-  are : terms ≡ cons (app (getD nodes at 0) arguments) others
-  few : m ≤ 8
-  arguments-list : is-list arguments ≡ true
-  arguments-well : well p arguments ≡ true
-  arguments-many : width arguments ≡ m
-  others-list : is-list others ≡ true
-  others-well : well p others ≡ true
-  others-many : width others ≡ n - 1
-  rest : Rest p nodes (at + 1) (n - 1 + m) (joined arguments others)
-  small : variables-below 16 (joined arguments others) ≡ true
-  fewer : length (flat terms) ≡ 1 + length (flat (joined arguments others))
+pub record Symbol-first (p : System) (nodes : List ℕ) (at n m : ℕ) (terms : Tree) : Type 0 where
+  pub arguments : Tree
+  pub others : Tree
+  pub are : terms ≡ cons (app (getD nodes at 0) arguments) others
+  pub few : m ≤ 8
+  pub arguments-list : is-list arguments ≡ true
+  pub arguments-well : well p arguments ≡ true
+  pub arguments-many : width arguments ≡ m
+  pub others-list : is-list others ≡ true
+  pub others-well : well p others ≡ true
+  pub others-many : width others ≡ n - 1
+  pub rest : Rest p nodes (at + 1) (n - 1 + m) (joined arguments others)
+  pub small : variables-below 16 (joined arguments others) ≡ true
+  pub fewer : length (flat terms) ≡ 1 + length (flat (joined arguments others))
 
 module _ (p : System) (arities nodes : List ℕ) (at n : ℕ) where
   first : (terms : Tree) → 0 < n → Rest p nodes at n terms → First nodes at terms
@@ -197,7 +197,7 @@ module _ (arities nodes : List ℕ) (at n : ℕ) (some : 0 < n) (q : Coming arit
       (omega (arith, q .kept .within, q .many), omega (arith, q .fits, q .many))
 
   -- what is left after one node
-  abbrev after : (k : ℕ) (ts : Tree) → Rest (q .system) nodes (at + 1) k ts → variables-below 16 ts ≡ true →
+  abbrev pub after : (k : ℕ) (ts : Tree) → Rest (q .system) nodes (at + 1) k ts → variables-below 16 ts ≡ true →
       length (flat (q .terms)) ≡ 1 + length (flat ts) → Coming arities nodes (at + 1) k
   after k ts r small fewer =
       record {
@@ -215,12 +215,26 @@ module _ (arities nodes : List ℕ) (at n : ℕ) (some : 0 < n) (q : Coming arit
       }
 
   module _ (h : 64 ≤ getD nodes at 0) where
-    coming-variable : Variable-first (q .system) nodes at n (q .terms)
+    pub coming-variable : Variable-first (q .system) nodes at n (q .terms)
     coming-variable = variable-first (q .system) arities nodes at n (q .arities-few) coming-first coming-rest (q .small) h
 
     -- the variable's sum has a place
     pub variable-low : getD nodes at 0 - 64 < 16
     variable-low = coming-variable .low
+
+    -- its factor goes to its sum
+    pub variable-stacked :
+        (fs sums : List ℕ) → length sums ≡ 16 → (ws : List Weight) (c : ℕ) →
+        stacked fs n (polynomials ws (q .terms)) (polynomial c sums)
+        ≡ stacked fs (n - 1) (polynomials ws (coming-variable .others))
+        (polynomial (c + 0) (set sums (getD nodes at 0 - 64) (getD sums (getD nodes at 0 - 64) 0 + getD fs (n - 1) 0)))
+    variable-stacked fs sums long ws c =
+        let x = coming-variable in
+        let v = getD nodes at 0 - 64 in
+        ap (λ (t : Tree). stacked fs n (polynomials ws t) (polynomial c sums)) (x .are)
+        ∙ variable-next fs n v (x .others) ws c sums (x .low) long
+        ∙ ap (λ k. stacked fs (n - 1) (polynomials ws (x .others)) (polynomial k (set sums v (getD sums v 0 + getD fs (n - 1) 0))))
+        (sym (add-zero c))
 
     pub variable-done :
         (table fs gs sums : List ℕ) → length sums ≡ 16 →
@@ -233,15 +247,13 @@ module _ (arities nodes : List ℕ) (at n : ℕ) (some : 0 < n) (q : Coming arit
           after (n - 1) (x .others) (x .rest) (x .small) (x .fewer),
           x .fewer,
           λ ws t c d. (
-            ap (λ (t : Tree). stacked fs n (polynomials ws t) (polynomial c sums)) (x .are)
-                ∙ variable-next fs n v (x .others) ws c sums (x .low) long
-                ∙ ap (λ k. stacked fs (n - 1) (polynomials ws (x .others)) (polynomial k (set sums v (getD sums v 0 + getD fs (n - 1) 0)))) (sym (add-zero c)),
+            variable-stacked fs sums long ws c,
             ap (λ (t : Tree). stacked-bound gs n (term-bounds ws t) d) (x .are) ∙ variable-bound gs n v (x .others) ws d,
           ),
         )
 
   module _ (h : getD nodes at 0 < 64) (m : ℕ) (e : m ≡ code-arity arities (getD nodes at 0)) where
-    coming-symbol : Symbol-first (q .system) nodes at n m (q .terms)
+    pub coming-symbol : Symbol-first (q .system) nodes at n m (q .terms)
     coming-symbol =
         symbol-first (q .system) arities nodes at n (q .arities-few) coming-first (q .arities-are) (q .arities-small) coming-rest (q .small) h m e
 
@@ -251,6 +263,19 @@ module _ (arities nodes : List ℕ) (at n : ℕ) (some : 0 < n) (q : Coming arit
         let x = coming-symbol in
         let l = width-flat (q .system) (joined (x .arguments) (x .others)) (x .rest .is-well) in
         (x .few, omega (arith, x .rest .many, x .fewer, q .fits))
+
+    -- its factor times its constant is added, and its arguments are next
+    pub symbol-stacked :
+        (table fs sums fs' : List ℕ) → length sums ≡ 16 → Pushed-factors table (getD nodes at 0) m (getD fs (n - 1) 0) (n - 1) fs fs' →
+        (ws : List Weight) → Table-is table ws → (c : ℕ) →
+        stacked fs n (polynomials ws (q .terms)) (polynomial c sums)
+        ≡ stacked fs' (n - 1 + m) (polynomials ws (joined (coming-symbol .arguments) (coming-symbol .others)))
+        (polynomial (c + getD fs (n - 1) 0 * getD table (9 * getD nodes at 0) 0) sums)
+    symbol-stacked table fs sums fs' long pushed ws t c =
+        let x = coming-symbol in
+        ap (λ (t : Tree). stacked fs n (polynomials ws t) (polynomial c sums)) (x .are)
+        ∙ symbol-next (q .system) fs fs' n (getD nodes at 0) m (x .arguments) (x .others) ws table c sums some h (x .few)
+        (x .arguments-list) (x .arguments-well) (x .arguments-many) (x .others-list) (x .others-well) (x .others-many) long t pushed
 
     pub symbol-done :
         (table fs gs sums fs' gs' : List ℕ) → length sums ≡ 16 →
@@ -265,9 +290,7 @@ module _ (arities nodes : List ℕ) (at n : ℕ) (some : 0 < n) (q : Coming arit
           after (n - 1 + m) (joined (x .arguments) (x .others)) (x .rest) (x .small) (x .fewer),
           x .fewer,
           λ ws t c d. (
-            ap (λ (t : Tree). stacked fs n (polynomials ws t) (polynomial c sums)) (x .are)
-                ∙ symbol-next p fs gs fs' gs' n f m (x .arguments) (x .others) ws table c sums some h (x .few)
-                (x .arguments-list) (x .arguments-well) (x .arguments-many) (x .others-list) (x .others-well) (x .others-many) long t pushed,
+            symbol-stacked table fs sums fs' long (pushed .factors-pushed) ws t c,
             ap (λ (t : Tree). stacked-bound gs n (term-bounds ws t) d) (x .are)
                 ∙ symbol-bound p fs gs fs' gs' n f m (x .arguments) (x .others) ws table d some h (x .few)
                 (x .arguments-list) (x .arguments-well) (x .arguments-many) (x .others-list) (x .others-well) (x .others-many) t pushed,

@@ -118,11 +118,25 @@ pub record Stacks (n : ℕ) (factors bounds : List ℕ) : Type 0 where
   pub within : (k : ℕ) → k < n → getD bounds k 0 ≤ 4294967295
 
 -- the factors of a symbol's m arguments were put on top of n others, the first argument's uppermost
-pub record Pushed (table : List ℕ) (f m factor bound n : ℕ) (fs gs fs' gs' : List ℕ) : Type 0 where
+pub record Pushed-factors (table : List ℕ) (f m factor n : ℕ) (fs fs' : List ℕ) : Type 0 where
   pub new-factors : (k : ℕ) → k < m → getD fs' (n + (m - 1 - k)) 0 ≡ factor * getD table (9 * f + 1 + k) 0
-  pub new-bounds : (k : ℕ) → k < m → getD gs' (n + (m - 1 - k)) 0 ≡ bound * lifted (getD table (9 * f + 1 + k) 0)
   pub old-factors : (k : ℕ) → k < n → getD fs' k 0 ≡ getD fs k 0
+
+-- the same of factors and bounds
+pub record Pushed (table : List ℕ) (f m factor bound n : ℕ) (fs gs fs' gs' : List ℕ) : Type 0 where
+  pub factors-pushed : Pushed-factors table f m factor n fs fs'
+  pub new-bounds : (k : ℕ) → k < m → getD gs' (n + (m - 1 - k)) 0 ≡ bound * lifted (getD table (9 * f + 1 + k) 0)
   pub old-bounds : (k : ℕ) → k < n → getD gs' k 0 ≡ getD gs k 0
+
+-- n factors, none above the limit
+pub record Factors (n : ℕ) (factors : List ℕ) : Type 0 where
+  pub long : length factors ≡ 32
+  pub within : (k : ℕ) → k < n → getD factors k 0 ≤ 4294967295
+
+-- how many of the first n factors are not 0
+unfoldable pub live-below : (factors : List ℕ) → (n : ℕ) → ℕ
+live-below fs zero = 0
+live-below fs (suc n) = cond (eqb (getD fs n 0) 0) (live-below fs n) (suc (live-below fs n))
 
 -- n terms over some system are kept at a place, in at most 32 nodes
 pub record Coming (arities nodes : List ℕ) (at n : ℕ) : Type 0 where
@@ -143,10 +157,12 @@ pub record Spread-as (root ws : List Weight) (t : Tree) (constant : ℕ) (sums :
   pub not-over : rooted-over root ws t ≡ false
   pub is : polynomial constant sums ≡ rooted root ws t
 
--- what is known of the left side kept at `left`, if the quick way went through
+-- what is known of the left side kept at `left`, if the quick way went through: its polynomial, which is within the limit
 unfoldable pub Left-known : (arities nodes marked table : List ℕ) (left : ℕ) → (through : Bool) → (constant : ℕ) → (sums : List ℕ) → Type 0
 Left-known arities nodes marked table left through constant sums =
-    through ≡ true → (w : Applied arities nodes left) (ws ms : List Weight) → Table-is table ws → Table-is marked ms → Spread-as ms ws (w .side .term) constant sums
+    through ≡ true →
+    (over-limit (polynomial constant sums) ≡ false)
+    × ((w : Applied arities nodes left) (ws ms : List Weight) → Table-is table ws → Table-is marked ms → polynomial constant sums ≡ rooted ms ws (w .side .term))
 
 -- what a rule or a pair is found to be: over the limit, or that its sides compare as they must, or not
 unfoldable pub verdict : (passes holds : Bool) → Verdict

@@ -44,8 +44,9 @@ pub fn add_scaled(y: Polynomial, k: u64, x: Polynomial) -> Polynomial
 }
 
 // A coefficient passes the limit.
-fn any_above(xs: [u64; 16]) -> bool
-    ensures { λ r. ⌜ r ≡ any-above xs ⌝ }
+pub fn any_above(xs: &[u64]) -> bool
+    requires { ⌜ length (now xs) ≡ 16 ⌝ }
+    ensures { λ r. ⌜ r ≡ any-above (now (xs .entry)) ⌝ }
 {
     let mut v = 0;
     while v < 16 {
@@ -65,7 +66,7 @@ pub fn passes(x: Polynomial) -> bool
         return true;
     }
     let xs = x.coefficients;
-    any_above(xs)
+    any_above(&xs)
 }
 
 // Each coefficient is at least the other's.

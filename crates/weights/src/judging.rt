@@ -1,12 +1,14 @@
 // One rule, and one pair, under the weights: the quick way where it goes through.
 use crate::Verdict;
-use crate::stack::Spreading;
+use crate::sparse::Gathered;
 ghost use mathlib.Core.Path.{_≡_};
-ghost use mathlib.Core.Bool.{not};
+ghost use mathlib.Core.Bool.{false, not};
 ghost use mathlib.Core.List.{List};
 ghost use lib.ListN.{length, replicate};
 ghost use Prim.Native.Nat.{_≤_};
 ghost use Rattle.polynomials.specs.Polynomials.{Weight};
+ghost use Rattle.rewriting.specs.Pairs.{arguments};
+ghost use Rattle.polynomials.specs.Limit.{over};
 ghost use Rattle.polynomials.specs.Judging.{rule-over, rule-rises, call-over, call-falls};
 ghost use Rattle.weights.specs.Working.{Table-is, Weighable, Applied, Left-known, verdict};
 
@@ -54,7 +56,7 @@ fn clear(sums: &mut [u64])
     }
 }
 
-// The left side of a pair, by the quick way: its coefficients in the sums, and its constant.
+// The left side of a pair: its coefficients in the sums, and its constant. Not through where one passes the limit.
 pub fn left_side(
     arities: &[u8],
     marked: &[u16],
@@ -63,18 +65,32 @@ pub fn left_side(
     left: usize,
     sums: &mut [u64],
     factors: &mut [u64],
-    bounds: &mut [u64],
-) -> Spreading
-    requires { ⌜ (length (now arities) ≡ 64) × (length (now marked) ≡ 576) × (length (now table) ≡ 576) × (length (now nodes) ≤ 65536) × (length (now sums) ≡ 16) × Applied (now arities) (now nodes) left × (length (now factors) ≡ 32) × (length (now bounds) ≡ 32) ⌝ }
+) -> Gathered
+    requires { ⌜ (length (now arities) ≡ 64) × (length (now marked) ≡ 576) × (length (now table) ≡ 576) × (length (now nodes) ≤ 65536) × (length (now sums) ≡ 16) × Applied (now arities) (now nodes) left × (length (now factors) ≡ 32) ⌝ }
     ensures long { λ _. ⌜ length (now (sums .exit)) ≡ 16 ⌝ }
     ensures known { λ r. ⌜ Left-known (now (arities .entry)) (now (nodes .entry)) (now (marked .entry)) (now (table .entry)) left (r .through) (r .constant) (now (sums .exit)) ⌝ }
 {
     clear(sums);
-    crate::stack::side(arities, marked, table, nodes, left, factors, bounds, sums)
+    let r = crate::sparse::side(arities, marked, table, nodes, left, factors, sums);
+    let k = r.constant;
+    if 4294967295 < k {
+        return Gathered {
+            through: false,
+            constant: 0,
+        };
+    }
+    if crate::arithmetic::any_above(sums) {
+        return Gathered {
+            through: false,
+            constant: 0,
+        };
+    }
+    r
 }
 
-// The pair whose sides are kept at `left` and `right`, their roots being tuple symbols: holds if its left is greater. `known` and
-// `sums` are what `left_side` answered and left.
+// The pair whose sides are kept at `left` and `right`, their roots being tuple symbols and their arguments within the limit: holds
+// if its left is greater. `known` and `sums` are what `left_side` answered and left. A right side below a left one that is within
+// the limit is within it too; where it is not below, the exact way tells which refusal it is.
 pub fn judge_call(
     arities: &[u8],
     marked: &[u16],
@@ -82,36 +98,26 @@ pub fn judge_call(
     nodes: &[u8],
     left: usize,
     right: usize,
-    known: Spreading,
+    known: Gathered,
     sums: &[u64],
     factors: &mut [u64],
-    bounds: &mut [u64],
 ) -> Verdict
-    requires { ⌜ (length (now arities) ≡ 64) × (length (now marked) ≡ 576) × (length (now table) ≡ 576) × (length (now nodes) ≤ 65536) × Applied (now arities) (now nodes) left × Applied (now arities) (now nodes) right × (length (now sums) ≡ 16) × Left-known (now arities) (now nodes) (now marked) (now table) left (known .through) (known .constant) (now sums) × (length (now factors) ≡ 32) × (length (now bounds) ≡ 32) ⌝ }
-    ensures { λ r. ⌜ ((l : Applied (now (arities .entry)) (now (nodes .entry)) left) (m : Applied (now (arities .entry)) (now (nodes .entry)) right) (ws ms : List Weight) → Table-is (now (table .entry)) ws → Table-is (now (marked .entry)) ms → r ≡ verdict (call-over (record { weights = ws; marked = ms }) (record { left = l .side .term; right = m .side .term })) (call-falls (record { weights = ws; marked = ms }) (record { left = l .side .term; right = m .side .term }))) ⌝ }
+    requires { ⌜ (length (now arities) ≡ 64) × (length (now marked) ≡ 576) × (length (now table) ≡ 576) × (length (now nodes) ≤ 65536) × Applied (now arities) (now nodes) left × Applied (now arities) (now nodes) right × (length (now sums) ≡ 16) × Left-known (now arities) (now nodes) (now marked) (now table) left (known .through) (known .constant) (now sums) × (length (now factors) ≡ 32) ⌝ }
+    ensures { λ r. ⌜ ((l : Applied (now (arities .entry)) (now (nodes .entry)) left) (m : Applied (now (arities .entry)) (now (nodes .entry)) right) (ws ms : List Weight) → Table-is (now (table .entry)) ws → Table-is (now (marked .entry)) ms → over ws (arguments (l .side .term)) ≡ false → over ws (arguments (m .side .term)) ≡ false → r ≡ verdict (call-over (record { weights = ws; marked = ms }) (record { left = l .side .term; right = m .side .term })) (call-falls (record { weights = ws; marked = ms }) (record { left = l .side .term; right = m .side .term }))) ⌝ }
 {
     if !known.through {
         return crate::exact::judge_call(arities, marked, table, nodes, left, right);
     }
     let mut y = [0u64; 16];
-    let r = crate::stack::side(
-        arities,
-        marked,
-        table,
-        nodes,
-        right,
-        factors,
-        bounds,
-        &mut y,
-    );
+    let r = crate::sparse::side(arities, marked, table, nodes, right, factors, &mut y);
     if !r.through {
         return crate::exact::judge_call(arities, marked, table, nodes, left, right);
     }
     if known.constant <= r.constant {
-        return Verdict::Fails;
+        return crate::exact::judge_call(arities, marked, table, nodes, left, right);
     }
     if crate::arithmetic::all_at_least(sums, &y) {
         return Verdict::Holds;
     }
-    Verdict::Fails
+    crate::exact::judge_call(arities, marked, table, nodes, left, right)
 }

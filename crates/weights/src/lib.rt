@@ -2,6 +2,7 @@
 pub mod arithmetic;
 mod exact;
 pub mod judging;
+pub mod sparse;
 pub mod stack;
 
 use polynomials::Polynomial;

@@ -1,58 +1,60 @@
--- `checker::component::judge_marked` meets its contract: the M records fill the table of the marked weights, the pairs are judged by
--- both tables, and the same records clear it.
-use mathlib.Core.Path.{_≡_, ap, _∙_}
+-- `checker::component::judge_marked` meets its contract: 11 where a rule is over, whatever the pairs are; else the pairs are judged.
+use mathlib.Core.Path.{_≡_, sym, _∙_}
 use Prim.Native.Nat.{ℕ}
+use native.Mathlib.Omega.{arith}
 use borrow.Author.Needs.{needs}
-use Rattle.records.specs.Outcomes.{Outcome}
 use Rattle.weights.specs.declared.Verdict.{Verdict}
-use Rattle.checker.specs.Working.{chosen, calls-verdict}
+use Rattle.weights.specs.declared.Verdict.the-variants.{Over, Fails, Holds}
+use Rattle.checker.specs.Working.{chosen}
 use Rattle.checker.proofs.component.judge_marked.Statement.{statement}
 use Rattle.checker.proofs.component.judge_marked.Tie as tie
 
-choice : (v : Verdict) {x y : Verdict} {next n : ℕ} {o : Outcome ℕ} → o ≡ chosen v x next → x ≡ y → next ≡ n → o ≡ chosen v y n
-choice v {y = y} {next = next} e f g = e ∙ ap (λ (z : Verdict). chosen v z next) f ∙ ap (chosen v y) g
+not-same : {x y : Verdict} → x ≡ y → (x ≡ y → _≡_ {A = ℕ} 0 1) → ⊥
+not-same e differ = let z = differ e in absurd (omega arith)
 
-abbrev start : tie.After-fill → tie.Start
-start c = c .before .before .before .before .before .before .before .before .before
+-- a verdict that is another is not over
+fails-not-over : (v : Verdict) → v ≡ Fails → v ≡ Over → ⊥
+fails-not-over v e h = not-same (sym e ∙ h) (λ e. cc)
 
-judge-pairs-requires : tie.Need-judge-pairs-requires
-judge-pairs-requires c κs =
-    let filled = c .before .before .before in
-    let asked = start filled .pre in
-    let known = asked .5 in (
-      asked .0,
-      asked .1,
-      asked .2,
-      filled .fill .ensures (known .3) (known .8) .1 .long,
-      asked .4,
-      (known .0, known .1, known .2, known .4, known .5, known .6, known .7),
-    )
-
-clear-requires : tie.Need-clear-requires
-clear-requires c κs =
-    let filled = c .before .before .before .before .before in
-    let known = start filled .pre .5 in
-    (known .3, known .8, filled .fill .ensures (known .3) (known .8) .1)
+holds-not-over : (v : Verdict) → v ≡ Holds → v ≡ Over → ⊥
+holds-not-over v e h = not-same (sym e ∙ h) (λ e. cc)
 
 returns : tie.Need-returns
-unfolding calls-verdict
+unfolding chosen
 returns c =
-    let cleared = c .before .before .before in
-    let judged = cleared .before .before in
-    let filled = judged .before .before .before .before in (
-      cleared .clear .ensures,
-      λ p symbols qs ws ms s all stand long marked-stand t.
-          let f = filled .fill .ensures ms marked-stand in
-          choice _ (c .choose .ensures) (judged .judge-pairs .ensures p symbols qs ws ms s all stand long t (f .1)) (f .0),
+    (c .before .before .before .before .before .before .before .before .before .pre .3, λ p symbols qs ws ms s all stand long there t none. rw (c .enum-told .given .1))
+
+returns-2 : tie.Need-returns-2
+returns-2 c =
+    let called = c .before .before in
+    let told = called .before .before in (
+      called .judge-calls .ensures .0,
+      λ p symbols qs ws ms s all stand long there t none.
+          rw (told .enum-told2 .given .1)
+          (called .judge-calls .ensures .1 p symbols qs ws ms s all stand long there t (none (fails-not-over _ (told .enum-told2 .given .1)))),
+    )
+
+returns-3 : tie.Need-returns-3
+returns-3 c =
+    let called = c .before .before in
+    let told = called .before .before in (
+      called .judge-calls2 .ensures .0,
+      λ p symbols qs ws ms s all stand long there t none.
+          rw (told .enum-told3 .given .1)
+          (called .judge-calls2 .ensures .1 p symbols qs ws ms s all stand long there t (none (holds-not-over _ (told .enum-told3 .given .1)))),
     )
 
 pub judge-marked-spec : {M : Type 1} → statement M
 judge-marked-spec =
     tie.close
     (tie.spec
-    (λ c κs. search needs)
-    judge-pairs-requires
-    clear-requires
+    (λ c. search needs)
+    (λ c. search needs)
     (λ c κs. search needs)
     (λ c. search needs)
-    returns)
+    (λ c κs. search needs)
+    returns
+    (λ c. search needs)
+    returns-2
+    (λ c. search needs)
+    returns-3)

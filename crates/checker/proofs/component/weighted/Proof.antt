@@ -4,7 +4,9 @@ use Prim.Native.Nat.{_/_, _≤_, _<_}
 use native.Mathlib.Omega.{arith}
 use borrow.Author.Needs.{needs}
 use lib.ListN.{length}
+use Rattle.weights.specs.declared.Verdict.the-variants.{Holds}
 use Rattle.checker.specs.Working.{rules-verdict}
+use Rattle.checker.proofs.Verdicts.{not-over}
 use Rattle.checker.proofs.Positions.{pairs-here}
 use Rattle.checker.proofs.Known.{only-weighting, small, weights-there, still-held, still-hold, marked-there, judged, known-now}
 use Rattle.checker.proofs.component.weighted.Statement.{statement}
@@ -49,6 +51,7 @@ judge-marked-requires c κs =
     )
 
 returns : tie.Need-returns
+unfolding rules-verdict
 returns c =
     let called = c .before .before in
     let same = called .before .before .before in
@@ -63,7 +66,7 @@ returns c =
           let rules = still-hold held (run .same) (only .0 .marked) in
           let marked = marked-there fits here (only .1) long (run .passed) in (
             judged fits here (only .1) long (run .passed) rules _
-                (called .judge-marked .ensures .1 p symbols (d .pairs) (only .0 .weights) (only .0 .marked) s (fits .are-pairs) (pairs-here _ _ _ here) long marked table),
+                (called .judge-marked .ensures .1 p symbols (d .pairs) (only .0 .weights) (only .0 .marked) s (fits .are-pairs) (pairs-here _ _ _ here) long marked table (λ h. not-over Holds _ _ rules h)),
             known-now fits here (only .1) long (run .passed) _ table,
           ),
     )
@@ -125,9 +128,10 @@ returns-2 c =
       λ p symbols d s fits here known one long.
           let only = only-weighting (d .weightings) one in
           let table = filled .refill .ensures (only .0 .weights) (weights-there fits here (only .1) long) in
+          let rules = rules-judged .judge-rules .ensures p symbols (only .0 .weights) (only .0 .marked) s (table .1) in
           let marked = marked-there fits here (only .1) long (table .0) in (
-            judged fits here (only .1) long (table .0) (rules-judged .judge-rules .ensures p symbols (only .0 .weights) (only .0 .marked) s (table .1)) _
-                (called .judge-marked2 .ensures .1 p symbols (d .pairs) (only .0 .weights) (only .0 .marked) s (fits .are-pairs) (pairs-here _ _ _ here) long marked (table .1)),
+            judged fits here (only .1) long (table .0) rules _
+                (called .judge-marked2 .ensures .1 p symbols (d .pairs) (only .0 .weights) (only .0 .marked) s (fits .are-pairs) (pairs-here _ _ _ here) long marked (table .1) (λ h. not-over _ _ _ rules h)),
             known-now fits here (only .1) long (table .0) _ (table .1),
           ),
     )

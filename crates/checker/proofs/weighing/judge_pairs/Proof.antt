@@ -11,16 +11,17 @@ use borrow.Author.Needs.{needs}
 use lib.ListN.{length, getD, drop, replicate, drop-of-length-le}
 use lib.Seq.{drop-cons}
 use Rattle.rewriting.specs.Terms.{System}
-use Rattle.rewriting.specs.Pairs.{Pair, is-pair}
+use Rattle.rewriting.specs.Pairs.{Pair, is-pair, arguments}
 use Rattle.records.specs.declared.Record.{Record}
 use Rattle.records.specs.Records.{record-at}
 use Rattle.pack_reader.specs.Stored.{Stored}
 use Rattle.pairs.specs.Listing.{a-pair, pair-record}
-use Rattle.weights.specs.declared.stack.Spreading.{Spreading}
+use Rattle.weights.specs.declared.sparse.Gathered.{Gathered}
 use Rattle.weights.specs.declared.Verdict.{Verdict}
 use Rattle.weights.specs.declared.Verdict.the-variants.{Over, Fails, Holds}
 use Rattle.polynomials.specs.Polynomials.{Weight, Weighting}
-use Rattle.polynomials.specs.Judging.{call-over, call-falls}
+use Rattle.polynomials.specs.Limit.{over}
+use Rattle.polynomials.specs.Judging.{any, rule-over, call-over, call-falls}
 use Rattle.weights.specs.Working.{Table-is, Applied, Left-known, verdict}
 use Rattle.judging.specs.Judge.{call, calls}
 use Rattle.partition.specs.Working.{All-pairs}
@@ -36,33 +37,33 @@ abbrev Pairs-left : System → List Pair → (weights marked : List Weight) → 
 Pairs-left p qs ws vs i failed = To-judge (call-over (weighting ws vs)) (calls-hold (weighting ws vs)) (calls p qs) (calls p (drop i qs)) failed
 
 -- what is known of the left side of a rule
-record Left-kept (arities nodes marked table starts : List ℕ) (rule : ℕ) (known : Spreading) (sums : List ℕ) : Type 0 where
+record Left-kept (arities nodes marked table starts : List ℕ) (rule : ℕ) (known : Gathered) (sums : List ℕ) : Type 0 where
   long : length sums ≡ 16
   is-known : Left-known arities nodes marked table (getD starts (2 * rule) 0) (known .through) (known .constant) sums
 
 -- nothing, where the quick way did not go through
-none-kept : (ar ns vs ts ss : List ℕ) (rule : ℕ) (known : Spreading) → known .through ≡ false → Left-kept ar ns vs ts ss rule known (replicate 16 0)
+none-kept : (ar ns vs ts ss : List ℕ) (rule : ℕ) (known : Gathered) → known .through ≡ false → Left-kept ar ns vs ts ss rule known (replicate 16 0)
 unfolding Left-known
 none-kept ar ns vs ts ss rule known e =
     record { long = refl; is-known = λ through. absurd (false≢true (sym e ∙ through)) }
 
 -- the same of equal ones
 kept-as :
-    (ar ns vs ts ss : List ℕ) {rule rule' : ℕ} {known known' : Spreading} {sums sums' : List ℕ} → rule ≡ rule' → known ≡ known' → sums ≡ sums' →
+    (ar ns vs ts ss : List ℕ) {rule rule' : ℕ} {known known' : Gathered} {sums sums' : List ℕ} → rule ≡ rule' → known ≡ known' → sums ≡ sums' →
     Left-kept ar ns vs ts ss rule' known' sums' → Left-kept ar ns vs ts ss rule known sums
 kept-as ar ns vs ts ss e f g k = rw (e, f, g) k
 
 abbrev Inv-loop : tie.InvT-loop
-Inv-loop certificate from count arities marked table starts nodes marks rules known₀ sums₀ factors₀ bounds₀ last₀ failed₀ i₀ known sums factors bounds last failed i =
+Inv-loop certificate from count arities marked table starts nodes marks rules known₀ sums₀ factors₀ last₀ failed₀ i₀ known sums factors last failed i =
     (i ≤ count)
     × Left-kept arities nodes marked table starts last known sums
     × ((p : System) (symbols : ℕ) (qs : List Pair) (ws vs : List Weight) → Stored p symbols rules arities starts nodes marks → All-pairs p qs →
-    Pairs-at certificate from qs → length qs ≡ count → Table-is table ws → Table-is marked vs → Pairs-left p qs ws vs i failed)
+    Pairs-at certificate from qs → length qs ≡ count → Table-is table ws → Table-is marked vs →
+    any (rule-over (weighting ws vs)) (p .rules) ≡ false → Pairs-left p qs ws vs i failed)
     × (length factors ≡ 32)
-    × (length bounds ≡ 32)
 
 abbrev μ-loop : tie.MeasureT-loop
-μ-loop certificate from count arities marked table starts nodes marks rules known₀ sums₀ factors₀ bounds₀ last₀ failed₀ i₀ known sums factors bounds last failed i = count - i
+μ-loop certificate from count arities marked table starts nodes marks rules known₀ sums₀ factors₀ last₀ failed₀ i₀ known sums factors last failed i = count - i
 
 -- the record of pair i
 module _ {cert : List ℕ} {from : ℕ} {qs : List Pair} (there : Pairs-at cert from qs) (i : ℕ) (h : i < length qs) where
@@ -94,16 +95,17 @@ module _ {cert : List ℕ} {from : ℕ} {qs : List Pair} (there : Pairs-at cert 
       right-there = rw reads-pair (right-applied s q is)
 
       -- the pair is judged
-      module _ (ws vs : List Weight) {x : Verdict}
+      module _ (ws vs : List Weight) (none : any (rule-over (weighting ws vs)) (p .rules) ≡ false) {x : Verdict}
           (answer :
           (l : Applied ar ns (getD ss (2 * r .a) 0)) (m : Applied ar ns (getD ss (2 * r .a + 1) 0 + r .b)) →
+          over ws (arguments (l .side .term)) ≡ false → over ws (arguments (m .side .term)) ≡ false →
           x ≡ verdict (call-over (weighting ws vs) (record { left = l .side .term; right = m .side .term })) (call-falls (weighting ws vs) (record { left = l .side .term; right = m .side .term }))) where
         abbrev w : Weighting
         w = weighting ws vs
 
         said : x ≡ verdict (call-over w (call p q)) (call-falls w (call p q))
         unfolding pair-record
-        said = call-answer s q is ws vs (rw reads-pair at answer)
+        said = call-answer s q is ws vs none (rw reads-pair at answer)
 
         module _ {failed : Bool} (left : Pairs-left p qs ws vs i failed) where
           pair-left : To-judge (call-over w) (calls-hold w) (calls p qs) (call p q ∷ calls p (drop (i + 1) qs)) failed
@@ -150,7 +152,7 @@ its-rule c =
 
 left-requires : tie.Need-left-side-requires Inv-loop μ-loop
 left-requires c κs =
-    let read = c .before .before .before .before .before .before .before .before in
+    let read = c .before .before .before .before .before .before .before in
     let turn = read .before in
     let l = turn .before .loop in
     let pre = start turn .pre in
@@ -162,7 +164,6 @@ left-requires c κs =
       l .inv .1 .long,
       left-there (known .5) (l .i) (there-is turn) (read .record-at .ensures) (known .3) (known .4),
       l .inv .3,
-      l .inv .4,
     )
 
 -- after the branch the left side of the pair's rule is kept: it was worked out, or it was kept
@@ -170,7 +171,7 @@ abbrev read-before : tie.Joined1 Inv-loop μ-loop → tie.After-record-at Inv-lo
 read-before c = c .before .before .before .before .before
 
 last-is : (c : tie.Joined1 Inv-loop μ-loop) → c .if1 .last ≡ read-before c .record-at .result .a
-last-is c = ⊎-elim (λ z. z .12) (λ z. z .5 ∙ sym (z .0 .left)) (c .if1 .came)
+last-is c = ⊎-elim (λ z. z .9) (λ z. z .4 ∙ sym (z .0 .left)) (c .if1 .came)
 
 left-kept :
     (c : tie.Joined1 Inv-loop μ-loop) → let a = start (read-before c .before) .args in
@@ -179,22 +180,22 @@ left-kept c =
     let turn = read-before c .before in
     let a = start turn .args in
     ⊎-elim
-    (λ z. kept-as _ _ _ _ (a .starts .now) refl (z .8) (z .9) (record { long = z .4 .ensures .0; is-known = z .4 .ensures .1 }))
+    (λ z. kept-as _ _ _ _ (a .starts .now) refl (z .6) (z .7) (record { long = z .3 .ensures .0; is-known = z .3 .ensures .1 }))
     (λ z. kept-as _ _ _ _ _ (z .0 .left) (z .1) (z .2) (turn .before .loop .inv .1))
     (c .if1 .came)
 
--- and the lent slices are as long as they were
-lent-long : (c : tie.Joined1 Inv-loop μ-loop) → (length (c .if1 .factors) ≡ 32) × (length (c .if1 .bounds) ≡ 32)
+-- and the lent slice is as long as it was
+lent-long : (c : tie.Joined1 Inv-loop μ-loop) → length (c .if1 .factors) ≡ 32
 lent-long c =
     let inv = read-before c .before .before .loop .inv in
     ⊎-elim
-    (λ z. let kept = z .4 .kept .1 .1 .1 .1 .1 .1 in (ap length (z .10) ∙ kept .0 ∙ inv .3, ap length (z .11) ∙ kept .1 .0 ∙ inv .4))
-    (λ z. (ap length (z .3) ∙ inv .3, ap length (z .4) ∙ inv .4))
+    (λ z. ap length (z .8) ∙ z .3 .kept .1 .1 .1 .1 .1 .1 .0 ∙ inv .3)
+    (λ z. ap length (z .3) ∙ inv .3)
     (c .if1 .came)
 
 requires : tie.Need-judge-call-requires Inv-loop μ-loop
 requires c κs =
-    let joined = c .before .before .before in
+    let joined = c .before .before in
     let read = read-before joined in
     let turn = read .before in
     let i = turn .before .loop .i in
@@ -209,46 +210,44 @@ requires c κs =
       right-there (known .5) i (there-is turn) (read .record-at .ensures) (known .3) (known .4),
       kept .long,
       kept .is-known,
-      lent-long joined .0,
-      lent-long joined .1,
+      lent-long joined,
     )
 
 returns : tie.Need-returns Inv-loop μ-loop
 returns c =
-    let called = c .before .before .before .before in
-    let read = read-before (called .before .before .before .before) in
+    let called = c .before .before .before in
+    let read = read-before (called .before .before .before) in
     let turn = read .before in
     let l = turn .before .loop in
-    λ p symbols qs ws vs s are there long t u.
-    pair-over-limit there (l .i) (omega (arith, turn .loop-test .taken)) (read .record-at .ensures) s are ws vs
-    (λ a b. called .judge-call .ensures a b ws vs t u)
-    (l .inv .2 p symbols qs ws vs s are there long t u)
+    λ p symbols qs ws vs s are there long t u none.
+    pair-over-limit there (l .i) (omega (arith, turn .loop-test .taken)) (read .record-at .ensures) s are ws vs none
+    (λ a b o m. called .judge-call .ensures a b ws vs t u o m)
+    (l .inv .2 p symbols qs ws vs s are there long t u none)
     (c .enum-told .given .1)
 
 add-i : tie.Need-add-i Inv-loop μ-loop
 add-i c =
-    let turn = read-before (c .before .before .before .before .before .before .before) .before in
+    let turn = read-before (c .before .before .before .before .before) .before in
     record { fits = omega (arith, turn .loop-test .taken, start turn .fits .count .fits) }
 
 again : tie.Need-loop-again Inv-loop μ-loop
 again c =
-    let called = c .before .before .before in
-    let joined = called .before .before .before .before in
+    let called = c .before .before in
+    let joined = called .before .before .before in
     let kept = called .judge-call .kept .1 .1 .1 .1 .1 .1 .1 .1 in
     let read = read-before joined in
     let turn = read .before in
     let l = turn .before .loop in (
       omega arith,
       kept-as _ _ _ _ _ (last-is joined) refl refl (left-kept joined),
-      λ p symbols qs ws vs s are there long t u.
+      λ p symbols qs ws vs s are there long t u none.
           let h : l .i < length qs = omega (arith, turn .loop-test .taken) in
-          let left = l .inv .2 p symbols qs ws vs s are there long t u in
+          let left = l .inv .2 p symbols qs ws vs s are there long t u none in
           ⊎-elim
-          (λ z. rw (z .2) (pair-fails there (l .i) h (read .record-at .ensures) s are ws vs (λ a b. called .judge-call .ensures a b ws vs t u) left (z .1 .given .1)))
-          (λ z. rw (z .2) (pair-holds there (l .i) h (read .record-at .ensures) s are ws vs (λ a b. called .judge-call .ensures a b ws vs t u) left (z .1 .given .1)))
+          (λ z. rw (z .2) (pair-fails there (l .i) h (read .record-at .ensures) s are ws vs none (λ a b o m. called .judge-call .ensures a b ws vs t u o m) left (z .1 .given .1)))
+          (λ z. rw (z .2) (pair-holds there (l .i) h (read .record-at .ensures) s are ws vs none (λ a b o m. called .judge-call .ensures a b ws vs t u o m) left (z .1 .given .1)))
           (c .match .came),
-      kept .0 ∙ lent-long joined .0,
-      kept .1 .0 ∙ lent-long joined .1,
+      kept .0 ∙ lent-long joined,
     )
 
 pub judge-pairs-spec : {M : Type 1} → statement M
@@ -257,7 +256,7 @@ judge-pairs-spec =
     (tie.spec
     Inv-loop
     μ-loop
-    (λ c. (omega arith, none-kept _ _ _ _ _ _ _ refl, λ p symbols qs ws vs s are there long t u. none-judged _ _ _, refl, refl))
+    (λ c. (omega arith, none-kept _ _ _ _ _ _ _ refl, λ p symbols qs ws vs s are there long t u none. none-judged _ _ _, refl))
     (λ c. omega (arith, its-record c))
     (λ c. omega (arith, its-record c))
     (λ c κs. omega (arith, its-record c))
@@ -275,11 +274,9 @@ judge-pairs-spec =
     (λ c. omega (arith, c .before .shared-slice-known9 .given (2 * c .before .before .before .before .record-at .result .a + 1)))
     (λ c. search needs)
     (λ c. search needs)
-    (λ c. search needs)
     left-requires
     (λ c. search (needs, left-kept (c .before) .long))
-    (λ c. search (needs, lent-long (c .before .before) .0))
-    (λ c. search (needs, lent-long (c .before .before .before) .1))
+    (λ c. search (needs, lent-long (c .before .before)))
     requires
     (λ c. search needs)
     returns
@@ -290,9 +287,9 @@ judge-pairs-spec =
     again
     (λ c.
     let l = c .before .before .loop in
-    λ p symbols qs ws vs s are there long t u.
-    fails p qs ws vs (l .i) (l .inv .2 p symbols qs ws vs s are there long t u) (omega (arith, c .before .loop-test .left)) (c .if2 .taken))
+    λ p symbols qs ws vs s are there long t u none.
+    fails p qs ws vs (l .i) (l .inv .2 p symbols qs ws vs s are there long t u none) (omega (arith, c .before .loop-test .left)) (c .if2 .taken))
     (λ c.
     let l = c .before .before .loop in
-    λ p symbols qs ws vs s are there long t u.
-    holds p qs ws vs (l .i) (l .inv .2 p symbols qs ws vs s are there long t u) (omega (arith, c .before .loop-test .left)) (c .if2 .left)))
+    λ p symbols qs ws vs s are there long t u none.
+    holds p qs ws vs (l .i) (l .inv .2 p symbols qs ws vs s are there long t u none) (omega (arith, c .before .loop-test .left)) (c .if2 .left)))

@@ -36,13 +36,13 @@ module _ (xs : List ℕ) (v : ℕ) where
 returns : tie.Need-returns Inv-loop μ-loop
 unfolding limit
 returns c =
-    let l = c .before .before .loop in
+    let l = c .before .before .before .loop in
     sym (found _ (l .v) (omega arith) (c .if1 .taken)) ∙ l .inv .2
 
 again : tie.Need-loop-again Inv-loop μ-loop
 unfolding limit
 again c =
-    let l = c .before .before .loop in
+    let l = c .before .before .before .loop in
     (l .inv .0, omega arith, passed _ (l .v) (omega arith) (c .if1 .left) ∙ l .inv .2)
 
 returns-2 : tie.Need-returns-2 Inv-loop μ-loop

@@ -11,7 +11,7 @@ returns c = rw (lt-ltb _ _ (c .if1 .taken))
 
 returns-2 : tie.Need-returns-2
 unfolding over-limit limit
-returns-2 c = rw (le-ltb _ _ (c .before .before .if1 .left)) (c .any-above .ensures)
+returns-2 c = rw (le-ltb _ _ (c .before .before .before .if1 .left)) (c .any-above .ensures)
 
 pub passes-spec : {M : Type 1} → statement M
-passes-spec = tie.close (tie.spec returns (λ c κs. search needs) returns-2)
+passes-spec = tie.close (tie.spec returns (λ c. search needs) (λ c κs. search needs) returns-2)

@@ -84,9 +84,8 @@ module _ (table : List ℕ) (f m factor bound n : ℕ) (fs gs : List ℕ) where
       all-pushed : Pushed table f m factor bound n fs gs fs' gs'
       all-pushed =
           record {
-            new-factors = λ k h. d .new k (omega arith) .factor-is;
+            factors-pushed = record { new-factors = λ k h. d .new k (omega arith) .factor-is; old-factors = d .old-factors };
             new-bounds = λ k h. d .new k (omega arith) .bound-is;
-            old-factors = d .old-factors;
             old-bounds = d .old-bounds;
           }
 
