@@ -104,14 +104,24 @@ module _ {p : System} {symbols rules : ℕ} {ar ss ns ms : List ℕ} (s : Stored
         let r = stored-rule p symbols rules ar ss ns ms s h in
         weighable _ (rule p i .right) (r .right-term) (r .right-small) (s .rules-at i h .right-kept) (s .good .rights i in-rules)
 
+    -- where they end
+    pub left-ends : getD ss (2 * i + 1) 0 ≡ getD ss (2 * i) 0 + length (flat (left-weighable .term))
+    unfolding left-weighable
+    left-ends = s .rules-at i h .left-long
+
+    pub right-ends : getD ss (2 * i + 2) 0 ≡ getD ss (2 * i + 1) 0 + length (flat (right-weighable .term))
+    unfolding right-weighable
+    right-ends = s .rules-at i h .right-long
+
     -- what is answered of the terms kept there is said of the rule
     pub rule-answer :
         (ws vs : List Weight) {x : Verdict} →
         ((l : Weighable ar ns (getD ss (2 * i) 0) 32) (m : Weighable ar ns (getD ss (2 * i + 1) 0) 32) →
+        getD ss (2 * i + 1) 0 ≡ getD ss (2 * i) 0 + length (flat (l .term)) → getD ss (2 * i + 2) 0 ≡ getD ss (2 * i + 1) 0 + length (flat (m .term)) →
         x ≡ verdict (rule-over (weighting ws vs) (record { left = l .term; right = m .term })) (not (rule-rises (weighting ws vs) (record { left = l .term; right = m .term })))) →
         x ≡ verdict (rule-over (weighting ws vs) (rule p i)) (not (rule-rises (weighting ws vs) (rule p i)))
     unfolding left-weighable right-weighable
-    rule-answer ws vs answer = answer left-weighable right-weighable
+    rule-answer ws vs answer = answer left-weighable right-weighable left-ends right-ends
 
   -- THE SIDES OF A PAIR
   module _ (q : Pair) (is : is-pair p q ≡ true) where

@@ -120,19 +120,23 @@ pub fn judge_rules(
 {
     let mut factors = [0u64; 32];
     let mut bounds = [0u64; 32];
+    let mut spans = [0u64; 32];
     let mut failed = false;
     let mut i = 0;
     while i < rules {
         let left = starts[2 * i] as usize;
         let right = starts[2 * i + 1] as usize;
+        let end = starts[2 * i + 2] as usize;
         match weights::judging::judge_rule(
             arities,
             table,
             nodes,
             left,
             right,
+            end,
             &mut factors,
             &mut bounds,
+            &mut spans,
         ) {
             Verdict::Over => {
                 return Verdict::Over;

@@ -32,7 +32,7 @@ one-bound ws nil e = absurd (true≢false e)
 one-bound ws (cons t ts) e = absurd (true≢false e)
 
 module _ (p : System) (ws : List Weight) where
-  many-bounds : (ts : Tree) → is-list ts ≡ true → well p ts ≡ true → length (term-bounds ws ts) ≡ width ts
+  pub many-bounds : (ts : Tree) → is-list ts ≡ true → well p ts ≡ true → length (term-bounds ws ts) ≡ width ts
   unfolding term-bounds is-list width
   many-bounds (var v) l h = absurd (false≢true l)
   many-bounds (app f ts) l h = absurd (false≢true l)
@@ -57,7 +57,7 @@ unfolding stacked-bound
 stacked-append gs n m [] ys t e = ap (λ k. stacked-bound gs k ys t) (omega arith)
 stacked-append gs n m (x ∷ xs) ys t e = stacked-append gs n (m - 1) xs ys (t + getD gs (m - 1) 0 * x) (omega arith)
 
-stacked-same :
+pub stacked-same :
     (gs gs' : List ℕ) (n : ℕ) (bs : List ℕ) (t : ℕ) → ((k : ℕ) → k < n → getD gs' k 0 ≡ getD gs k 0) → length bs ≤ n →
     stacked-bound gs n bs t ≡ stacked-bound gs' n bs t
 unfolding stacked-bound

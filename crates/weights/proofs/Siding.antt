@@ -5,26 +5,17 @@ use mathlib.Core.List.{List}
 use Prim.Native.Nat.{ℕ, _+_, _*_, _≤_, _<_}
 use native.Mathlib.Omega.{arith}
 use lib.ListN.{length, getD, set, replicate}
+use borrow.Author.Tests.{lt-ltb}
 use Rattle.rewriting.specs.Terms.{Tree, var}
+use Rattle.terms.specs.Sides.{flat}
 use Rattle.terms.specs.Kept.{code-arity}
 use Rattle.polynomials.specs.declared.Polynomial.{Polynomial}
 use Rattle.polynomials.specs.Polynomials.{Weight, polynomial, polynomials}
-use Rattle.weights.specs.Working.{Table-is, Weighable, rooted, rooted-over, term-bounds, stacked, stacked-bound, Stacks, Pushed, Coming, Spread-as, verdict}
+use Rattle.weights.specs.Working.{Table-is, Weighable, rooted, rooted-over, term-bounds, stacked, stacked-bound, Pushed, Coming, Spread-as, verdict}
 use Rattle.weights.proofs.Working.{sides-verdict, neither-over}
 use Rattle.weights.proofs.Arguments.{root-symbol}
 use Rattle.weights.proofs.Stacked.{root-stacked}
 use Rattle.weights.proofs.Bounds.{root-within}
-
--- no factor is on the stacks
-pub none-stacked : (fs gs : List ℕ) → length fs ≡ 32 → length gs ≡ 32 → Stacks 0 fs gs
-none-stacked fs gs l m =
-    record {
-      factors-long = l;
-      bounds-long = m;
-      below = λ k h. absurd (omega arith);
-      some = λ k h. absurd (omega arith);
-      within = λ k h. absurd (omega arith);
-    }
 
 -- THE ROOT
 
@@ -36,6 +27,11 @@ variable-spread v t e rs ws sums z =
       not-over = ap (rooted-over rs ws) e;
       is = ap (λ (l : List ℕ). polynomial 0 (set l v 1)) z ∙ sym (ap (rooted rs ws) e);
     }
+
+-- a symbol's arity is its entry
+pub symbol-entry : (arities : List ℕ) (c : ℕ) → c < 64 → getD arities c 0 ≡ code-arity arities c
+unfolding code-arity
+symbol-entry arities c low = rw (lt-ltb c 64 low)
 
 -- a symbol: its arguments are to come
 module _ (arities nodes : List ℕ) (at : ℕ) (w : Weighable arities nodes at 32) (low : getD nodes at 0 < 64) (m : ℕ) (as-many : m ≡ code-arity arities (getD nodes at 0)) where
@@ -60,22 +56,29 @@ module _ (arities nodes : List ℕ) (at : ℕ) (w : Weighable arities nodes at 3
         fits = omega (arith, are .fits);
       }
 
+  -- up to where the term ends
+  pub arguments-end : (end : ℕ) → end ≡ at + length (flat (w .term)) → end ≡ at + 1 + length (flat (arguments-come .terms))
+  unfolding flat
+  arguments-end end e =
+      let n = ap (λ (t : Tree). length (flat t)) (root-symbol arities nodes at 32 w low .applied) in
+      omega arith
+
   -- they were spread, and the bound is within the limit
   pub symbol-spread :
       (root table fs gs fs' gs' before : List ℕ) → Pushed root (getD nodes at 0) m 1 1 0 fs gs fs' gs' → before ≡ replicate 16 0 →
-      (c b : ℕ) (sums : List ℕ) →
-      ((q : Coming arities nodes (at + 1) m) (ws : List Weight) → Table-is table ws →
+      (end : ℕ) → end ≡ at + length (flat (w .term)) → (c b : ℕ) (sums : List ℕ) →
+      ((q : Coming arities nodes (at + 1) m) → end ≡ at + 1 + length (flat (q .terms)) → (ws : List Weight) → Table-is table ws →
       (polynomial c sums ≡ stacked fs' m (polynomials ws (q .terms)) (polynomial (getD root (9 * getD nodes at 0) 0) before))
       × (b ≡ stacked-bound gs' m (term-bounds ws (q .terms)) (getD root (9 * getD nodes at 0) 0))) →
       b ≤ 4294967295 → (rs ws : List Weight) → Table-is root rs → Table-is table ws → Spread-as rs ws (w .term) c sums
-  symbol-spread root table fs gs fs' gs' before pushed z c b sums means within rs ws r t =
+  symbol-spread root table fs gs fs' gs' before pushed z end e c b sums means within rs ws r t =
       let f = getD nodes at 0 in
       let own = getD root (9 * f) 0 in
       let below = root-symbol arities nodes at 32 w low in
       let ts = below .arguments in
       let are = below .are .rest in
       let many = are .many ∙ sym as-many in
-      let found = means arguments-come ws t in
+      let found = means arguments-come (arguments-end end e) ws t in
       let limited : stacked-bound gs' m (term-bounds ws ts) own ≤ 4294967295 = rw (found .1) at within in
       record {
         not-over =

@@ -51,7 +51,7 @@ stacked-append fs m n [] ys y h = ap (λ k. stacked fs k ys y) (let e : m ≡ n 
 stacked-append fs m n (x ∷ xs) ys y h = stacked-append fs (m - 1) n xs ys _ (omega arith)
 
 -- only the factors below n count
-stacked-same :
+pub stacked-same :
     (fs fs' : List ℕ) (n : ℕ) (xs : List Polynomial) (y : Polynomial) → length xs ≤ n → ((k : ℕ) → k < n → getD fs' k 0 ≡ getD fs k 0) →
     stacked fs n xs y ≡ stacked fs' n xs y
 unfolding stacked

@@ -16,7 +16,7 @@ use Rattle.terms.specs.Kept.{code, code-arity}
 use Rattle.terms.proofs.Parsing.{well-app, well-cons, flat-positive}
 use Rattle.terms.proofs.Rests.{Rest, joined, joined-flat, joined-list, joined-width, joined-well, kept-first, kept-others, symbol-arity}
 use Rattle.polynomials.specs.Polynomials.{Weight, polynomial, polynomials}
-use Rattle.weights.specs.Working.{Table-is, term-bounds, stacked, stacked-bound, Stacks, Pushed-factors, Pushed, Coming}
+use Rattle.weights.specs.Working.{Table-is, term-bounds, stacked, stacked-bound, Pushed-factors, Pushed, Coming}
 use Rattle.weights.proofs.Stacked.{variable-next, symbol-next}
 use Rattle.weights.proofs.Bounds.{variable-bound, symbol-bound}
 
@@ -146,35 +146,10 @@ module _ (p : System) (arities nodes : List ℕ) (at n : ℕ) where
           fewer = rw j (omega arith);
         }
 
--- THE TOP OF THE STACKS
-
-module _ (n : ℕ) (fs gs : List ℕ) (some : 0 < n) (s : Stacks n fs gs) where
-  pub top-below : getD fs (n - 1) 0 ≤ getD gs (n - 1) 0
-  top-below = s .below (n - 1) (omega arith)
-
-  pub top-some : 1 ≤ getD gs (n - 1) 0
-  top-some = s .some (n - 1) (omega arith)
-
-  pub top-within : getD gs (n - 1) 0 ≤ 4294967295
-  top-within = s .within (n - 1) (omega arith)
-
-  pub top-factor : getD fs (n - 1) 0 ≤ 4294967295
-  top-factor = omega (arith, top-below, top-within)
-
-  pub without-top : Stacks (n - 1) fs gs
-  without-top =
-      record {
-        factors-long = s .factors-long;
-        bounds-long = s .bounds-long;
-        below = λ k h. s .below k (omega arith);
-        some = λ k h. s .some k (omega arith);
-        within = λ k h. s .within k (omega arith);
-      }
-
 -- ONE NODE OF WHAT IS TO COME
 
 -- it is done: k terms are to come after it, and with its own parts and the stacks and sums after it all comes to the same
-abbrev Done :
+abbrev pub Done :
     (arities nodes table : List ℕ) (at n : ℕ) → Coming arities nodes at n → (fs gs sums fs' gs' sums' : List ℕ) (k constant bound : ℕ) → Type 0
 Done arities nodes table at n q fs gs sums fs' gs' sums' k constant bound =
     (s : Coming arities nodes (at + 1) k)

@@ -3,7 +3,7 @@
 use mathlib.Core.Path.{_≡_}
 use mathlib.Core.Bool.{Bool, true, false, _||_, not, cond}
 use mathlib.Core.List.{List, [], _∷_, _++_}
-use Prim.Native.Nat.{ℕ, zero, suc, _+_, _*_, _-_, _≤_, _<_}
+use Prim.Native.Nat.{ℕ, zero, suc, _+_, _*_, _-_, _/_, _%_, _≤_, _<_}
 use lib.Dec.{eqb}
 use lib.ListN.{length, getD, set, take}
 use Rattle.rewriting.specs.Terms.{Tree, var, app, nil, cons, Rule, System, is-list, is-term, well, width}
@@ -109,14 +109,6 @@ unfoldable pub stacked-bound : (factors : List ℕ) → (n : ℕ) → List ℕ �
 stacked-bound gs n [] t = t
 stacked-bound gs n (b ∷ bs) t = stacked-bound gs (n - 1) bs (t + getD gs (n - 1) 0 * b)
 
--- n factors, none above its bound's, and no bound's above the limit
-pub record Stacks (n : ℕ) (factors bounds : List ℕ) : Type 0 where
-  pub factors-long : length factors ≡ 32
-  pub bounds-long : length bounds ≡ 32
-  pub below : (k : ℕ) → k < n → getD factors k 0 ≤ getD bounds k 0
-  pub some : (k : ℕ) → k < n → 1 ≤ getD bounds k 0
-  pub within : (k : ℕ) → k < n → getD bounds k 0 ≤ 4294967295
-
 -- the factors of a symbol's m arguments were put on top of n others, the first argument's uppermost
 pub record Pushed-factors (table : List ℕ) (f m factor n : ℕ) (fs fs' : List ℕ) : Type 0 where
   pub new-factors : (k : ℕ) → k < m → getD fs' (n + (m - 1 - k)) 0 ≡ factor * getD table (9 * f + 1 + k) 0
@@ -137,6 +129,37 @@ pub record Factors (n : ℕ) (factors : List ℕ) : Type 0 where
 unfoldable pub live-below : (factors : List ℕ) → (n : ℕ) → ℕ
 live-below fs zero = 0
 live-below fs (suc n) = cond (eqb (getD fs n 0) 0) (live-below fs n) (suc (live-below fs n))
+
+-- FRAMES: a symbol whose arguments are not all visited has a factor, a bound and the span of its weights that are still to come: the
+-- table's entry of the next one, and 65536 times how many there are
+
+-- the factors of the `rest` arguments whose weights stand from `cell` on, the next one's last
+unfoldable pub run : (ℕ → ℕ) → (table : List ℕ) → (own cell rest : ℕ) → List ℕ
+run g ts k c zero = []
+run g ts k c (suc r) = k * g (getD ts (c + r) 0) ∷ run g ts k c r
+
+-- the factors of all terms still to come, by the symbols' own, the next one's last
+unfoldable pub frames : (ℕ → ℕ) → (table owns spans : List ℕ) → (depth : ℕ) → List ℕ
+frames g ts ks ss zero = []
+frames g ts ks ss (suc d) = frames g ts ks ss d ++ run g ts (getD ks d 0) (getD ss d 0 % 65536) (getD ss d 0 / 65536)
+
+-- as they are, and as bounds
+unfoldable pub come-factors : (table factors spans : List ℕ) → (depth : ℕ) → List ℕ
+come-factors ts fs ss d = frames (λ w. w) ts fs ss d
+
+unfoldable pub come-bounds : (table bounds spans : List ℕ) → (depth : ℕ) → List ℕ
+come-bounds ts gs ss d = frames lifted ts gs ss d
+
+-- in each frame an argument is still to come, no factor is above its bound, and no bound above the limit
+pub record Framed (depth : ℕ) (factors bounds spans : List ℕ) : Type 0 where
+  pub factors-long : length factors ≡ 32
+  pub bounds-long : length bounds ≡ 32
+  pub spans-long : length spans ≡ 32
+  pub below : (k : ℕ) → k < depth → getD factors k 0 ≤ getD bounds k 0
+  pub some : (k : ℕ) → k < depth → 1 ≤ getD bounds k 0
+  pub within : (k : ℕ) → k < depth → getD bounds k 0 ≤ 4294967295
+  pub some-left : (k : ℕ) → k < depth → 65536 ≤ getD spans k 0
+  pub inside : (k : ℕ) → k < depth → getD spans k 0 % 65536 + getD spans k 0 / 65536 ≤ 576
 
 -- n terms over some system are kept at a place, in at most 32 nodes
 pub record Coming (arities nodes : List ℕ) (at n : ℕ) : Type 0 where

@@ -5,34 +5,57 @@ ghost use mathlib.Core.Path.{_≡_};
 ghost use mathlib.Core.Bool.{false, not};
 ghost use mathlib.Core.List.{List};
 ghost use lib.ListN.{length, replicate};
-ghost use Prim.Native.Nat.{_≤_};
+ghost use Prim.Native.Nat.{_+_, _≤_};
+ghost use Rattle.terms.specs.Sides.{flat};
 ghost use Rattle.polynomials.specs.Polynomials.{Weight};
 ghost use Rattle.rewriting.specs.Pairs.{arguments};
 ghost use Rattle.polynomials.specs.Limit.{over};
 ghost use Rattle.polynomials.specs.Judging.{rule-over, rule-rises, call-over, call-falls};
 ghost use Rattle.weights.specs.Working.{Table-is, Weighable, Applied, Left-known, verdict};
 
-// The rule whose sides are kept at `left` and `right`: holds if its left is at least its right. `factors` and `bounds` are room for
-// the stacks, here and below: what stands in them does not matter.
+// The rule whose sides are kept from `left` to `right` and from there to `end`: holds if its left is at least its right. `factors`,
+// `bounds` and `spans` are room for the stacks, here and below: what stands in them does not matter.
 pub fn judge_rule(
     arities: &[u8],
     table: &[u16],
     nodes: &[u8],
     left: usize,
     right: usize,
+    end: usize,
     factors: &mut [u64],
     bounds: &mut [u64],
+    spans: &mut [u64],
 ) -> Verdict
-    requires { ⌜ (length (now arities) ≡ 64) × (length (now table) ≡ 576) × (length (now nodes) ≤ 65536) × Weighable (now arities) (now nodes) left 32 × Weighable (now arities) (now nodes) right 32 × (length (now factors) ≡ 32) × (length (now bounds) ≡ 32) ⌝ }
-    ensures { λ r. ⌜ ((l : Weighable (now (arities .entry)) (now (nodes .entry)) left 32) (m : Weighable (now (arities .entry)) (now (nodes .entry)) right 32) (ws ms : List Weight) → Table-is (now (table .entry)) ws → r ≡ verdict (rule-over (record { weights = ws; marked = ms }) (record { left = l .term; right = m .term })) (not (rule-rises (record { weights = ws; marked = ms }) (record { left = l .term; right = m .term })))) ⌝ }
+    requires { ⌜ (length (now arities) ≡ 64) × (length (now table) ≡ 576) × (length (now nodes) ≤ 65536) × ((l : Weighable (now arities) (now nodes) left 32) × (right ≡ left + length (flat (l .term)))) × ((m : Weighable (now arities) (now nodes) right 32) × (end ≡ right + length (flat (m .term)))) × (length (now factors) ≡ 32) × (length (now bounds) ≡ 32) × (length (now spans) ≡ 32) ⌝ }
+    ensures { λ r. ⌜ ((l : Weighable (now (arities .entry)) (now (nodes .entry)) left 32) (m : Weighable (now (arities .entry)) (now (nodes .entry)) right 32) (ws ms : List Weight) → right ≡ left + length (flat (l .term)) → end ≡ right + length (flat (m .term)) → Table-is (now (table .entry)) ws → r ≡ verdict (rule-over (record { weights = ws; marked = ms }) (record { left = l .term; right = m .term })) (not (rule-rises (record { weights = ws; marked = ms }) (record { left = l .term; right = m .term })))) ⌝ }
 {
     let mut x = [0u64; 16];
-    let l = crate::stack::side(arities, table, table, nodes, left, factors, bounds, &mut x);
+    let l = crate::stack::side(
+        arities,
+        table,
+        nodes,
+        left,
+        right,
+        factors,
+        bounds,
+        spans,
+        &mut x,
+    );
     if !l.through {
         return crate::exact::judge_rule(arities, table, nodes, left, right);
     }
     let mut y = [0u64; 16];
-    let r = crate::stack::side(arities, table, table, nodes, right, factors, bounds, &mut y);
+    let r = crate::stack::side(
+        arities,
+        table,
+        nodes,
+        right,
+        end,
+        factors,
+        bounds,
+        spans,
+        &mut y,
+    );
     if !r.through {
         return crate::exact::judge_rule(arities, table, nodes, left, right);
     }
