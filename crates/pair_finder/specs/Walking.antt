@@ -1,7 +1,7 @@
 -- How the code lists pairs and walks two terms, over a pack as it is kept. The contracts between our own functions speak of
 -- it; no promise to a user does.
 use mathlib.Core.Path.{_≡_}
-use mathlib.Core.Bool.{Bool, true, false, _&&_, _||_, cond}
+use mathlib.Core.Bool.{Bool, true, false, _&&_, _||_, not, cond}
 use mathlib.Core.List.{List, [], _∷_, _++_, map}
 use Prim.Native.Nat.{ℕ, zero, suc, _+_, _*_, _-_, _≤_, _<_}
 use lib.Dec.{ltb, leb, eqb}
@@ -67,6 +67,10 @@ pub record Walkable (arities marks nodes : List ℕ) (u end v : ℕ) : Type 0 wh
 -- the walk skips a term on either side: one is a variable, or the first has a defined root
 unfoldable pub jumps : (marks : List ℕ) → (c d : ℕ) → Bool
 jumps ms c d = leb 64 d || (leb 64 c || is-marked ms c)
+
+-- else it goes on only into both: the same constructor stands on both sides
+unfoldable pub enters : (marks : List ℕ) → (c d : ℕ) → Bool
+enters ms c d = eqb c d && not (jumps ms c d)
 
 -- a pair's right side is kept at `right`, and `other` is a rule
 pub record Arc-asked (arities starts nodes marks : List ℕ) (right other : ℕ) : Type 0 where

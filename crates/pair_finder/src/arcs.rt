@@ -11,7 +11,7 @@ ghost use Rattle.terms.specs.Kept.{Term-at};
 ghost use Rattle.pack_reader.specs.Stored.{Stored};
 ghost use Rattle.pairs.specs.Listing.{a-pair};
 ghost use Rattle.pairs.specs.Arcs.{may-reach, arc};
-ghost use Rattle.pair_finder.specs.Walking.{jumps, Walkable, Laid, Arc-asked, Place-answer};
+ghost use Rattle.pair_finder.specs.Walking.{jumps, enters, Walkable, Laid, Arc-asked, Place-answer};
 
 // The walk skips a term on either side.
 fn jumps(marks: &[u8], c: u8, d: u8) -> bool
@@ -27,6 +27,17 @@ fn jumps(marks: &[u8], c: u8, d: u8) -> bool
     crate::listing::is_marked(marks, c)
 }
 
+// The walk goes one node on on both sides: the same constructor stands there.
+fn enters(marks: &[u8], c: u8, d: u8) -> bool
+    requires { ⌜ length (now marks) ≡ 64 ⌝ }
+    ensures { λ r. ⌜ r ≡ enters (now (marks .entry)) c d ⌝ }
+{
+    if c != d {
+        return false;
+    }
+    !jumps(marks, c, d)
+}
+
 // Each argument of the one list, kept from u to `end`, may reach the argument of the other, kept from v on.
 fn may_reach(arities: &[u8], marks: &[u8], nodes: &[u8], u: usize, end: usize, v: usize) -> bool
     requires { ⌜ (length (now arities) ≡ 64) × (length (now marks) ≡ 64) × (length (now nodes) ≤ 65536) × Walkable (now arities) (now marks) (now nodes) u end v ⌝ }
@@ -37,15 +48,15 @@ fn may_reach(arities: &[u8], marks: &[u8], nodes: &[u8], u: usize, end: usize, v
     while i < end {
         let c = nodes[i];
         let d = nodes[k];
-        if jumps(marks, c, d) {
-            i = terms::skip(arities, nodes, i);
-            k = terms::skip(arities, nodes, k);
-        } else {
-            if c != d {
-                return false;
-            }
+        if enters(marks, c, d) {
             i = i + 1;
             k = k + 1;
+        } else {
+            if !jumps(marks, c, d) {
+                return false;
+            }
+            i = terms::skip(arities, nodes, i);
+            k = terms::skip(arities, nodes, k);
         }
     }
     true
