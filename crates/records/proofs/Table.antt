@@ -106,15 +106,28 @@ same-below : (n : ℕ) (f g : ℕ → ℕ) → sum-below n (λ i. distance (f i)
 unfolding distance
 same-below n f g h i b = let z : (f i - g i) + (g i - f i) ≡ 0 = zero-below n (λ i. distance (f i) (g i)) h i b in omega arith
 
--- how many bits of a row say something else than the table does
-unfoldable pub misses : (before due : ℕ) → (weighted : Bool) → (row : ℕ) → ℕ
-misses before due weighted row =
-    sum-below 64 (λ k. distance (row / 2 ^ k % 2) (bit (may-follow before (index (64 + k)) due weighted)))
+-- how many bits of a row, each kind's at its place, say something else than the table does
+unfoldable pub misses : (before due : ℕ) → (weighted : Bool) → (row : ℕ) → (place : ℕ → ℕ) → ℕ
+misses before due weighted row place =
+    sum-below 21 (λ k. distance (row / 2 ^ place k % 2) (bit (may-follow before (index (67 + k)) due weighted)))
 
-pub row-at : {b : ℕ} (before : ℕ) {due : ℕ} {weighted : Bool} {row : ℕ} → b ≡ before → misses before due weighted row ≡ 0 → Row b due weighted row
+hits : (before due : ℕ) (weighted : Bool) (row : ℕ) (place : ℕ → ℕ) → misses before due weighted row place ≡ 0
+    → (k : ℕ) → k < 21 → row / 2 ^ place k % 2 ≡ bit (may-follow before (index (67 + k)) due weighted)
 unfolding misses
-row-at before {due} {weighted} {row} e h =
-    rw e (record { bits = same-below 64 (λ k. row / 2 ^ k % 2) (λ k. bit (may-follow before (index (64 + k)) due weighted)) h })
+hits before due weighted row place h =
+    same-below 21 (λ k. row / 2 ^ place k % 2) (λ k. bit (may-follow before (index (67 + k)) due weighted)) h
+
+pub row-at : {b : ℕ} (before : ℕ) {row : ℕ} → b ≡ before
+    → misses before 1 false row (λ k. k) ≡ 0
+    → misses before 0 false row (λ k. k + 21) ≡ 0
+    → misses before 0 true row (λ k. k + 21 + 21) ≡ 0
+    → Row b row
+row-at before {row} e l d w =
+    rw e (record {
+      lasts = hits before 1 false row (λ k. k) l;
+      done = hits before 0 false row (λ k. k + 21) d;
+      weighted = hits before 0 true row (λ k. k + 21 + 21) w;
+    })
 
 -- the last row is the one that is left when ten are not it; five at a time, since `omega` splits each
 five-past : (b n : ℕ) → n ≤ b → (b ≡ n → ⊥) → (b ≡ n + 1 → ⊥) → (b ≡ n + 2 → ⊥) → (b ≡ n + 3 → ⊥) → (b ≡ n + 4 → ⊥) → n + 5 ≤ b
@@ -150,8 +163,8 @@ pub end-entry : (before : ℕ) → before < 11 → entry before certificate-edge
 unfolding order sum-below distance ends
 end-entry before h = same-below 11 (λ i. entry i certificate-edge) ends refl before h
 
--- no letter is below 64 or above 127
-pub no-kind : (k : ℕ) → _⊎_ (k < 64) (128 ≤ k) → index k ≡ 10
+-- no letter is below C or above W
+pub no-kind : (k : ℕ) → _⊎_ (k < 67) (88 ≤ k) → index k ≡ 10
 unfolding index
 no-kind k h =
     simp (

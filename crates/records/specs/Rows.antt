@@ -1,4 +1,5 @@
--- A row of the table as the code holds it: bit k is set where kind 64 + k may stand.
+-- A row of the table as the code holds it: bit k is set where kind 67 + k may stand while the count lasts, the bit 21 further
+-- up where it may stand after the count, and the bit 42 further up where it may after it in a component with a weighting.
 use mathlib.Core.Path.{_≡_}
 use mathlib.Core.Bool.{Bool, true, false}
 use Prim.Native.Nat.{ℕ, _+_, _/_, _%_, _^_, _<_}
@@ -8,5 +9,7 @@ unfoldable pub bit : Bool → ℕ
 bit true = 1
 bit false = 0
 
-pub record Row (before due : ℕ) (weighted : Bool) (row : ℕ) : Type 0 where
-  pub bits : (k : ℕ) → k < 64 → row / 2 ^ k % 2 ≡ bit (may-follow before (index (64 + k)) due weighted)
+pub record Row (before : ℕ) (row : ℕ) : Type 0 where
+  pub lasts : (k : ℕ) → k < 21 → row / 2 ^ k % 2 ≡ bit (may-follow before (index (67 + k)) 1 false)
+  pub done : (k : ℕ) → k < 21 → row / 2 ^ (k + 21) % 2 ≡ bit (may-follow before (index (67 + k)) 0 false)
+  pub weighted : (k : ℕ) → k < 21 → row / 2 ^ (k + 21 + 21) % 2 ≡ bit (may-follow before (index (67 + k)) 0 true)

@@ -5,88 +5,65 @@ ghost use Prim.Native.Nat.{_<_};
 ghost use Rattle.records.specs.Order.{certificate-edge, index, may-follow};
 ghost use Rattle.records.specs.Rows.{Row};
 
-// A row for what stands before, and in it a bit for each kind that may stand there, from kind 64 on. A row is chosen by a
-// `match`, since a constant array is laid out anew at each use.
-const C: u64 = 0x8;
+// A row for what stands before, and in it a bit for each kind that may stand there, from C on: the lowest 21 while the count
+// lasts, the next 21 after it, the next 21 after it in a component with a weighting. A row is chosen by a `match`, since a
+// constant array is laid out anew at each use.
+const C: u64 = 0x1;
 
-const F: u64 = 0x40;
+const F: u64 = 0x8;
 
-const M: u64 = 0x2000;
+const M: u64 = 0x400;
 
-const P: u64 = 0x10000;
+const P: u64 = 0x2000;
 
-const R: u64 = 0x40000;
+const R: u64 = 0x8000;
 
-const S: u64 = 0x80000;
+const S: u64 = 0x10000;
 
-const V: u64 = 0x400000;
+const V: u64 = 0x80000;
 
-const W: u64 = 0x800000;
+const W: u64 = 0x100000;
 
-const R_S: u64 = R + S;
+// After the count, and after it with a weighting.
+const DONE: u64 = 0x200000;
 
-const F_V: u64 = F + V;
+const WEIGHTED: u64 = 0x40000000000;
 
-const C_M: u64 = C + M;
+const EVER: u64 = 1 + DONE + WEIGHTED;
 
-const C_M_W: u64 = C + M + W;
+const AFTER_PACK_START: u64 = EVER * S;
 
-// The row while the count lasts.
-fn while_due(before: usize) -> u64
+const AFTER_S: u64 = EVER * (R + S);
+
+const AFTER_R: u64 = EVER * (F + V);
+
+const AFTER_NODE: u64 = F + V + DONE * R + WEIGHTED * R;
+
+const AFTER_CERTIFICATE_START: u64 = EVER * C;
+
+const AFTER_C: u64 = EVER * P;
+
+const AFTER_P: u64 = P + DONE * C + WEIGHTED * (C + M + W);
+
+const AFTER_W: u64 = EVER * (C + M + W);
+
+const AFTER_M: u64 = EVER * (C + M);
+
+fn row(before: usize) -> u64
     requires { ⌜ before < 11 ⌝ }
-    ensures { λ r. ⌜ Row before 1 false r ⌝ }
+    ensures { λ r. ⌜ Row before r ⌝ }
 {
     match before {
-        0 => S,
-        1 => R_S,
-        2 => F_V,
-        3 => F_V,
-        4 => F_V,
-        5 => C,
-        6 => P,
-        7 => P,
-        8 => C_M_W,
-        9 => C_M,
-        _ => 0,
-    }
-}
-
-// The row after it.
-fn after_due(before: usize) -> u64
-    requires { ⌜ before < 11 ⌝ }
-    ensures { λ r. ⌜ Row before 0 false r ⌝ }
-{
-    match before {
-        0 => S,
-        1 => R_S,
-        2 => F_V,
-        3 => R,
-        4 => R,
-        5 => C,
-        6 => P,
-        7 => C,
-        8 => C_M_W,
-        9 => C_M,
-        _ => 0,
-    }
-}
-
-// The row after it in a component with a weighting.
-fn after_due_weighted(before: usize) -> u64
-    requires { ⌜ before < 11 ⌝ }
-    ensures { λ r. ⌜ Row before 0 true r ⌝ }
-{
-    match before {
-        0 => S,
-        1 => R_S,
-        2 => F_V,
-        3 => R,
-        4 => R,
-        5 => C,
-        6 => P,
-        7 => C_M_W,
-        8 => C_M_W,
-        9 => C_M,
+        0 => AFTER_PACK_START,
+        1 => AFTER_S,
+        2 => AFTER_R,
+        3 => AFTER_NODE,
+        4 => AFTER_NODE,
+        5 => AFTER_CERTIFICATE_START,
+        6 => AFTER_C,
+        7 => AFTER_P,
+        8 => AFTER_W,
+        9 => AFTER_M,
         _ => 0,
     }
 }
@@ -116,20 +93,20 @@ pub fn stands(before: usize, kind: u8, due: usize, weighted: bool) -> bool
     ensures { λ r. ⌜ r ≡ may-follow before (index kind) due weighted ⌝ }
 {
     let k = kind as usize;
-    if k < 64 {
+    if k < 67 {
         return false;
     }
-    if 128 <= k {
+    if 88 <= k {
         return false;
     }
-    let mut row = while_due(before);
+    let mut place = k - 67;
     if due == 0 {
-        row = after_due(before);
+        place = place + 21;
         if weighted {
-            row = after_due_weighted(before);
+            place = place + 21;
         }
     }
-    (row >> (k - 64)) % 2 == 1
+    (row(before) >> place) % 2 == 1
 }
 
 // Whether the certificate may end here.

@@ -12,41 +12,59 @@ use Rattle.records.proofs.Table.{no-kind, other-nowhere, while-due-same
 use Rattle.records.proofs.order.stands.Statement.{statement}
 use Rattle.records.proofs.order.stands.Tie as tie
 
--- while the count lasts, one row serves
-lasting : {before row : ℕ} (due : ℕ) (weighted : Bool) → 1 ≤ due → Row before 1 false row → Row before due weighted row
-lasting {before} due weighted h r = record { bits = λ k l. r .bits k l ∙ ap bit (sym (while-due-same before (index (64 + k)) due weighted h)) }
-
 module _ (before kind due : ℕ) (weighted : Bool) where
-  no-letter : before < 11 → (kind < 64) ⊎ (128 ≤ kind) → false ≡ may-follow before (index kind) due weighted
+  no-letter : before < 11 → (kind < 67) ⊎ (88 ≤ kind) → false ≡ may-follow before (index kind) due weighted
   unfolding may-follow lets
   no-letter h k = rw (no-kind kind k, other-nowhere before (omega arith))
 
-  by-bit : {row : ℕ} → 64 ≤ kind → kind < 128 → Row before due weighted row → eqb (row / 2 ^ (kind - 64) % 2) 1 ≡ may-follow before (index kind) due weighted
-  unfolding bit
-  by-bit h l r =
-      let e : 64 + (kind - 64) ≡ kind = omega arith in
-      rw (r .bits (kind - 64) (omega arith), e) (set (may-follow before (index kind) due weighted))
-    where
-      set : (b : Bool) → eqb (bit b) 1 ≡ b
-      set true = refl
-      set false = refl
+  -- the bit at a place of a row says what the table says of the kind
+  abbrev Says : (row place : ℕ) → Type 0
+  Says row place = eqb (row / 2 ^ place % 2) 1 ≡ may-follow before (index kind) due weighted
 
--- the row chosen is the one for the count due and the weighting
-chosen : {b d e r s : ℕ} {w v : Bool} → d ≡ e → w ≡ v → r ≡ s → Row b e v s → Row b d w r
-chosen p q u h = rw (p, q, u) h
+  module _ {row place : ℕ} (r : Row before row) (h : 67 ≤ kind) (l : kind < 88) where
+    by-bit : (n : ℕ) → place ≡ n → row / 2 ^ n % 2 ≡ bit (may-follow before (index (67 + (kind - 67))) due weighted) → Says row place
+    unfolding bit
+    by-bit n p s =
+        let e : 67 + (kind - 67) ≡ kind = omega arith in
+        rw (p, s, e) (set (may-follow before (index kind) due weighted))
+      where
+        set : (b : Bool) → eqb (bit b) 1 ≡ b
+        set true = refl
+        set false = refl
+
+    while-due : place ≡ kind - 67 → 1 ≤ due → Says row place
+    while-due p d =
+        by-bit (kind - 67) p
+        (r .lasts (kind - 67) (omega arith) ∙ ap bit (sym (while-due-same before (index (67 + (kind - 67))) due weighted d)))
+
+    after-due : place ≡ kind - 67 + 21 → due ≡ 0 → weighted ≡ false → Says row place
+    after-due p d w = by-bit (kind - 67 + 21) p (rw (d, w) (r .done (kind - 67) (omega arith)))
+
+    after-due-weighted : place ≡ kind - 67 + 21 + 21 → due ≡ 0 → weighted ≡ true → Says row place
+    after-due-weighted p d w = by-bit (kind - 67 + 21 + 21) p (rw (d, w) (r .weighted (kind - 67) (omega arith)))
+
+-- the highest place is 20 + 21 + 21
+in-row : tie.Need-shr-result
+in-row c =
+    ⊎-elim
+    (λ w. omega (arith, w .2))
+    (λ o. ⊎-elim (λ w. omega (arith, w .2)) (λ w. omega (arith, w .1)) o)
+    (c .before .before .if3 .came)
 
 letter : tie.Need-returns-3
 letter c =
     let known = c .before .before in
-    by-bit _ _ _ _ (known .before .before .if1 .left) (known .before .if2 .left)
-    (⊎-elim
-    (λ w. chosen (w .0 .taken) (w .2 .taken) (w .4) (w .3 .ensures))
+    let low = known .before .before .if1 .left in
+    let high = known .before .if2 .left in
+    let r = c .before .row .ensures in
+    ⊎-elim
+    (λ w. after-due-weighted _ _ _ _ r low high (w .2) (w .0 .taken) (w .1 .taken))
     (λ o.
     ⊎-elim
-    (λ w. chosen (w .0 .taken) (w .2 .left) (w .3) (w .1 .ensures))
-    (λ w. chosen refl refl (w .1) (lasting _ _ (omega (arith, w .0 .left)) (known .while-due .ensures)))
+    (λ w. after-due _ _ _ _ r low high (w .2) (w .0 .taken) (w .1 .left))
+    (λ w. while-due _ _ _ _ r low high (w .1) (omega (arith, w .0 .left)))
     o)
-    (c .before .if3 .came))
+    (known .if3 .came)
 
 pub stands-spec : {M : Type 1} → statement M
 stands-spec =
@@ -54,8 +72,8 @@ stands-spec =
     (tie.spec
     (λ c. no-letter _ _ _ _ (c .before .pre) (inl (c .if1 .taken)))
     (λ c. no-letter _ _ _ _ (c .before .before .pre) (inr (c .if2 .taken)))
-    (λ c κs. search needs)
-    (λ c κs. search needs)
-    (λ c κs. search needs)
     (λ c. search needs)
+    (λ c. search needs)
+    (λ c κs. search needs)
+    in-row
     letter)
