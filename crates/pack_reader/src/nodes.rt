@@ -66,7 +66,8 @@ pub fn read_nodes(
             }
             Answer::Passed(code) => {
                 nodes[base + j] = code as u8;
-                last = records::order::index(r.kind);
+                // F's row, or V's, which comes next.
+                last = 3 + code / 64;
                 j = j + 1;
             }
         }

@@ -177,18 +177,3 @@ no-kind k h =
       ne-eqb k 87 (λ e. ⊎-elim (λ l. omega arith) (λ l. omega arith) h),
       ne-eqb k 77 (λ e. ⊎-elim (λ l. omega arith) (λ l. omega arith) h),
     )
-
-pub index-small : (k : ℕ) → index k < 11
-unfolding index
-index-small k = small (kind-of k)
-  where
-    small : {m : ℕ} → Kind m → index m < 11
-    small is-S = omega arith
-    small is-R = omega arith
-    small is-F = omega arith
-    small is-V = omega arith
-    small is-C = omega arith
-    small is-P = omega arith
-    small is-W = omega arith
-    small is-M = omega arith
-    small (is-other m e) = omega (arith, e)

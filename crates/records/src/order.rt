@@ -68,24 +68,6 @@ fn row(before: usize) -> u64
     }
 }
 
-// A kind's row.
-pub fn index(kind: u8) -> usize
-    ensures row { λ r. ⌜ r ≡ index kind ⌝ }
-    ensures small { λ r. ⌜ r < 11 ⌝ }
-{
-    match kind {
-        b'S' => 1,
-        b'R' => 2,
-        b'F' => 3,
-        b'V' => 4,
-        b'C' => 6,
-        b'P' => 7,
-        b'W' => 8,
-        b'M' => 9,
-        _ => 10,
-    }
-}
-
 // Whether a record of this kind may stand, by the row of what stands before, the count still due and whether the component has
 // a weighting.
 pub fn stands(before: usize, kind: u8, due: usize, weighted: bool) -> bool

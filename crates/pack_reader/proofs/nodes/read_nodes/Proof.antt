@@ -20,11 +20,13 @@ use Rattle.records.specs.Records.{record-at, all-records}
 use Rattle.records.specs.Order.{index, may-follow}
 use Rattle.records.specs.Wanted.{wanted-at}
 use Rattle.records.proofs.Bytes.{drop-records, length-of-records}
+use Rattle.records.proofs.Table.{kind-of}
 use Rattle.terms.specs.Sides.{Node}
 use Rattle.terms.specs.Kept.{code, codes}
+use Rattle.packs.proofs.Places.{Inside, at-rule, inside-row, inside-next}
 use Rattle.pack_reader.specs.Stored.{Run, node-outcome, coded, more-run, node-steps, Nodes-read}
 use Rattle.pack_reader.proofs.Wanted.{found-at, stray-at}
-use Rattle.pack_reader.proofs.NodeSteps.{Small, outcome-small, code-small, coded-passed, coded-refused, codes-append, steps-stray, steps-refused, steps-read, steps-end, with-nodes, with-none, with-more}
+use Rattle.pack_reader.proofs.NodeSteps.{Small, outcome-small, code-small, code-row, outcome-row, coded-passed, coded-refused, codes-append, steps-stray, steps-refused, steps-read, steps-end, with-nodes, with-none, with-more}
 use Rattle.pack_reader.proofs.nodes.read_nodes.Statement.{statement}
 use Rattle.pack_reader.proofs.nodes.read_nodes.Tie as tie
 
@@ -32,11 +34,12 @@ use Rattle.pack_reader.proofs.nodes.read_nodes.Tie as tie
 abbrev steps-left : (pack : List ℕ) (from count symbols last j : ℕ) → Outcome Run
 steps-left pack from count symbols last j = node-steps symbols last (count - j) (drop (from + j) (all-records pack))
 
--- the j-th record is a node: its byte, and the steps after it
+-- the j-th record is a node: its byte, the row of its kind, and the steps after it
 record Node-read (pack : List ℕ) (from count symbols last j next byte : ℕ) : Type 0 where
   node : Node
   byte-is : byte ≡ code node
   small : Small symbols node
+  inside : Inside next
   then : steps-left pack from count symbols last j ≡ after (steps-left pack from count symbols next (j + 1)) (λ y. more-run node y)
 
 -- ONE TURN, by what stands at the j-th record
@@ -61,15 +64,21 @@ module _ (pack : List ℕ) (from count symbols last j : ℕ) (h : j < count) whe
       node-refused : {m : ℕ} → refused m ≡ coded (node-outcome symbols r) → steps-left pack from count symbols last j ≡ refused m
       node-refused e = rw (there, stands .1) (steps-refused symbols last r _ (count - j) _ (omega arith) (stands .0) (coded-refused _ e))
 
-      node-read : {b : ℕ} → passed b ≡ coded (node-outcome symbols r) → Node-read pack from count symbols last j (index (r .kind)) b
-      node-read e =
+      node-read : {b : ℕ} → Inside last → symbols ≤ 64 → passed b ≡ coded (node-outcome symbols r)
+          → Node-read pack from count symbols last j (3 + b / 64) b
+      node-read {b} i few e =
           let x = coded-passed (node-outcome symbols r) e in
+          let s = outcome-small symbols r (x .0) (x .1) in
           let d : count - j ≡ suc (count - (j + 1)) = omega arith in
+          let its = outcome-row symbols r (x .0) (count - j) i (omega arith) (stands .0) (x .1) in
+          let row : 3 + b / 64 ≡ index (r .kind) = ap (λ (c : ℕ). 3 + c / 64) (x .2) ∙ code-row symbols (x .0) few s ∙ sym its in
           record {
             node = x .0;
             byte-is = x .2;
-            small = outcome-small symbols r (x .0) (x .1);
-            then = rw (there, stands .1, d) (steps-read symbols last r _ (count - (j + 1)) (x .0) (rw d at (stands .0)) (x .1));
+            small = s;
+            inside = rw row (inside-next i (kind-of (r .kind)) (count - j) (omega arith) (stands .0));
+            then =
+                rw (row, there, stands .1, d) (steps-read symbols last r _ (count - (j + 1)) (x .0) (rw d at (stands .0)) (x .1));
           }
 
 -- THE INVARIANT
@@ -83,7 +92,7 @@ record So-far (pack : List ℕ) (from count symbols base : ℕ) (before now : Li
 
 abbrev Inv-loop : tie.InvT-loop
 Inv-loop pack from count symbols nodes₀ base n last₀ j₀ nodes last j =
-    (j ≤ count) × (last < 11) × (length nodes ≡ length nodes₀) × So-far pack from count symbols base nodes₀ nodes last j
+    (j ≤ count) × Inside last × (length nodes ≡ length nodes₀) × So-far pack from count symbols base nodes₀ nodes last j
 
 abbrev μ-loop : tie.MeasureT-loop
 μ-loop pack from count symbols nodes₀ base n last₀ j₀ nodes last j = count - j
@@ -143,12 +152,13 @@ read : (c : tie.After-known-told3 Inv-loop μ-loop)
     → let w = c .before .before .before .before in
     let l = w .before .before .before .before .before .before .loop in
     let a = w .before .before .before .before .before .before .before .before .before .args in
-    Node-read (a .pack .now) (a .from) (a .count) (a .symbols) (l .last) (l .j) (index (w .before .r .given .0 .0 .kind)) (c .before .code .given .0 .0)
+    let b = c .before .code .given .0 .0 in
+    Node-read (a .pack .now) (a .from) (a .count) (a .symbols) (l .last) (l .j) (3 + b / 64) b
 read c =
     let w = c .before .before .before .before in
     let t = w .before .before .before .before in
     let l = t .before .before .loop in
-    node-read _ _ _ _ (l .last) (l .j) (t .before .loop-test .taken) (t .if1 .left) (found w)
+    node-read _ _ _ _ (l .last) (l .j) (t .before .loop-test .taken) (t .if1 .left) (found w) (l .inv .1) (omega arith)
     (sym (ap outcome-of (c .before .code .given .1)) ∙ c .before .before .before .node-code .ensures)
 
 file-end : tie.Need-returns Inv-loop μ-loop
@@ -173,12 +183,10 @@ bad-node c =
 
 again : tie.Need-loop-again Inv-loop μ-loop
 again c =
-    let l = c .before .before .before .before .before .before .before .before .before .before .before .loop in (
-      omega arith,
-      c .index .ensures .1,
-      simp length-set (omega arith),
-      rw (c .index .ensures .0) (more _ _ _ _ _ _ (l .nodes) (l .last) (l .j) (l .inv .3) (l .inv .2) (read (c .before)) (omega arith)),
-    )
+    let l = c .before .before .before .before .before .before .before .before .before .before .loop in
+    let n = read c in
+    let step = more _ _ _ _ _ _ (l .nodes) (l .last) (l .j) (l .inv .3) (l .inv .2) n (omega arith) in
+    (omega arith, n .inside, simp length-set (omega arith), step)
 
 all-read : tie.Need-returns-4 Inv-loop μ-loop
 all-read c =
@@ -191,14 +199,14 @@ read-nodes-spec =
     (tie.spec
     Inv-loop
     μ-loop
-    (λ c. (omega arith, omega arith, refl, start _ _ _ _ _ _))
+    (λ c. (omega arith, at-rule, refl, start _ _ _ _ _ _))
     (λ c. omega arith)
     (λ c. omega arith)
     file-end
     (λ c. omega arith)
     (λ c. omega arith)
     (λ c. omega arith)
-    (λ c κs. omega arith)
+    (λ c κs. omega (arith, inside-row (c .before .before .loop .inv .1)))
     (λ c. c .match .keys1)
     (λ c. c .match .keys2)
     (λ c. omega arith)
@@ -211,7 +219,7 @@ read-nodes-spec =
     (λ c. let n = read c in omega (arith, n .byte-is, code-small _ (n .node) (omega arith) (n .small)))
     (λ c. omega arith)
     (λ c. omega arith)
-    (λ c κs. search needs)
+    (λ c. let n = read c in omega (arith, n .byte-is, code-small _ (n .node) (omega arith) (n .small)))
     (λ c. omega arith)
     (λ c. omega arith)
     again
