@@ -18,8 +18,14 @@ use Rattle.polynomials.specs.Polynomials.{Weight, weight, polynomial, no-coeffi
 use Rattle.polynomials.specs.Values.{total, value-of}
 use Rattle.polynomials.specs.Limit.{limit, over, over-limit}
 use Rattle.polynomials.proofs.Meaning.{Sixteen, none-total, combined-sixteen, polynomials-sixteen}
-use Rattle.weights.specs.Working.{Table-is, rooted-over, added, total-of, lifted, lifted-sum, term-bounds, stacked-bound, Pushed}
+use Rattle.weights.specs.Working.{Table-is, rooted-over, added, total-of, lifted, lifted-sum, term-bounds, stacked-bound, Pushed-factors}
 use Rattle.weights.proofs.Gathering.{added-long, total-added, total-within}
+
+-- the factors and the bounds of a symbol's m arguments were put on top of n others
+pub record Pushed (table : List ℕ) (f m factor bound n : ℕ) (fs gs fs' gs' : List ℕ) : Type 0 where
+  pub factors-pushed : Pushed-factors table f m factor n fs fs'
+  pub new-bounds : (k : ℕ) → k < m → getD gs' (n + (m - 1 - k)) 0 ≡ bound * lifted (getD table (9 * f + 1 + k) 0)
+  pub old-bounds : (k : ℕ) → k < n → getD gs' k 0 ≡ getD gs k 0
 
 -- ONE AFTER ANOTHER
 

@@ -7,7 +7,8 @@ use native.Mathlib.Omega.{arith}
 use lib.ListN.{length, getD, set, length-append, length-set}
 use lib.Seq.{getD-set-same}
 use Rattle.weights.proofs.Framing.{run-long, run-from, frames-some}
-use Rattle.weights.specs.Working.{lifted, run, frames, come-factors, come-bounds, Framed, Pushed}
+use Rattle.weights.specs.Working.{lifted, run, frames, come-factors, come-bounds, Framed}
+use Rattle.weights.proofs.Bounds.{Pushed}
 
 -- FRAMES
 

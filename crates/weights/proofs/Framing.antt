@@ -12,9 +12,9 @@ use borrow.Author.Tests.{eqb-true, eqb-false}
 use Rattle.rewriting.proofs.Basics.{by-test}
 use Rattle.terms.specs.Kept.{code-arity}
 use Rattle.polynomials.specs.Polynomials.{polynomials}
-use Rattle.weights.specs.Working.{term-bounds, lifted, Pushed, run, frames, Framed, Coming}
+use Rattle.weights.specs.Working.{term-bounds, lifted, run, frames, Framed, Coming}
 use Rattle.weights.proofs.Stacked.{polynomials-long, stacked-same}
-use Rattle.weights.proofs.Bounds.{many-bounds}
+use Rattle.weights.proofs.Bounds.{Pushed, many-bounds}
 use Rattle.weights.proofs.Bounds as bounds
 use Rattle.weights.proofs.Visiting.{Done, variable-done, symbol-done}
 

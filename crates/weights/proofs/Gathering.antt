@@ -8,7 +8,7 @@ use native.Mathlib.Omega.{arith}
 use lib.Dec.{eqb}
 use lib.ListN.{length, getD, set, replicate, length-set, getD-replicate}
 use lib.Seq.{getD-set-same, getD-set-other}
-use borrow.Author.Tests.{eqb-true, eqb-false, lt-leb, le-leb, lt-ltb, le-ltb}
+use borrow.Author.Tests.{eqb-true, eqb-false, lt-leb, le-leb, lt-ltb}
 use Rattle.rewriting.proofs.Basics.{by-test}
 use Rattle.polynomials.specs.declared.Polynomial.{Polynomial}
 use Rattle.polynomials.specs.Polynomials.{polynomial, scaled-sum, each-at-least, at-least, greater}
@@ -113,10 +113,6 @@ module _ (c d : ℕ) (xs ys : List ℕ) where
   pub then-least : d ≤ c → (b : Bool) → each-at-least xs ys ≡ b → at-least (polynomial c xs) (polynomial d ys) ≡ b
   unfolding at-least
   then-least h b e = rw (le-leb d c h) e
-
-  pub not-above : c ≤ d → greater (polynomial c xs) (polynomial d ys) ≡ false
-  unfolding greater
-  not-above h = rw (le-ltb d c h)
 
   pub then-greater : d < c → (b : Bool) → each-at-least xs ys ≡ b → greater (polynomial c xs) (polynomial d ys) ≡ b
   unfolding greater

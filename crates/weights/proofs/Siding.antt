@@ -11,11 +11,11 @@ use Rattle.terms.specs.Sides.{flat}
 use Rattle.terms.specs.Kept.{code-arity}
 use Rattle.polynomials.specs.declared.Polynomial.{Polynomial}
 use Rattle.polynomials.specs.Polynomials.{Weight, polynomial, polynomials}
-use Rattle.weights.specs.Working.{Table-is, Weighable, rooted, rooted-over, term-bounds, stacked, stacked-bound, Pushed, Coming, Spread-as, verdict}
+use Rattle.weights.specs.Working.{Table-is, Weighable, rooted, rooted-over, term-bounds, stacked, stacked-bound, Coming, Spread-as, verdict}
 use Rattle.weights.proofs.Working.{sides-verdict, neither-over}
 use Rattle.weights.proofs.Arguments.{root-symbol}
 use Rattle.weights.proofs.Stacked.{root-stacked}
-use Rattle.weights.proofs.Bounds.{root-within}
+use Rattle.weights.proofs.Bounds.{Pushed, root-within}
 
 -- THE ROOT
 

@@ -16,9 +16,9 @@ use Rattle.terms.specs.Kept.{code, code-arity}
 use Rattle.terms.proofs.Parsing.{well-app, well-cons, flat-positive}
 use Rattle.terms.proofs.Rests.{Rest, joined, joined-flat, joined-list, joined-width, joined-well, kept-first, kept-others, symbol-arity}
 use Rattle.polynomials.specs.Polynomials.{Weight, polynomial, polynomials}
-use Rattle.weights.specs.Working.{Table-is, term-bounds, stacked, stacked-bound, Pushed-factors, Pushed, Coming}
+use Rattle.weights.specs.Working.{Table-is, term-bounds, stacked, stacked-bound, Pushed-factors, Coming}
 use Rattle.weights.proofs.Stacked.{variable-next, symbol-next}
-use Rattle.weights.proofs.Bounds.{variable-bound, symbol-bound}
+use Rattle.weights.proofs.Bounds.{Pushed, variable-bound, symbol-bound}
 
 -- TERMS IN A ROW
 

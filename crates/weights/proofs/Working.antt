@@ -6,7 +6,6 @@ use mathlib.Core.Logic.{_↔_}
 use mathlib.Core.List.{List, _∷_}
 use Prim.Native.Nat.{ℕ}
 use native.Mathlib.Omega.{arith}
-use lib.ListN.{length, length-set}
 use borrow.Author.Tests.{not-true, not-false}
 use Rattle.rewriting.specs.Terms.{Tree, var, app, nil, cons, Rule, is-list}
 use Rattle.rewriting.specs.Pairs.{arguments}
@@ -17,20 +16,10 @@ use Rattle.weights.specs.declared.Formed.{Formed}
 use Rattle.weights.specs.declared.Verdict.{Verdict}
 use Rattle.weights.specs.declared.Verdict.the-variants.{Over, Fails, Holds}
 use Rattle.polynomials.specs.declared.Polynomial.{Polynomial}
-use Rattle.polynomials.specs.Polynomials.{Weight, Weighting, no-coefficients, polynomials, first, polynomial-of, marked-polynomial, at-least, greater}
+use Rattle.polynomials.specs.Polynomials.{Weight, Weighting, polynomials, first, polynomial-of, marked-polynomial, at-least, greater}
 use Rattle.polynomials.specs.Limit.{over, marked-over}
 use Rattle.polynomials.specs.Judging.{Call, rule-over, rule-rises, call-over, call-falls}
-use Rattle.polynomials.proofs.Meaning.{combined-sixteen, polynomials-sixteen}
 use Rattle.weights.specs.Working.{Weighable, Applied, rooted, rooted-over, Formed-as, verdict}
-
--- SIXTEEN COEFFICIENTS
-
-pub rooted-sixteen : (root ws : List Weight) (t : Tree) → length (rooted root ws t .coefficients) ≡ 16
-unfolding rooted
-rooted-sixteen root ws (var v) = length-set no-coefficients v 1
-rooted-sixteen root ws (app f ts) = combined-sixteen root f (polynomials-sixteen ws ts)
-rooted-sixteen root ws nil = refl
-rooted-sixteen root ws (cons t ts) = refl
 
 -- A PLAIN SIDE
 

@@ -114,12 +114,6 @@ pub record Pushed-factors (table : List ℕ) (f m factor n : ℕ) (fs fs' : List
   pub new-factors : (k : ℕ) → k < m → getD fs' (n + (m - 1 - k)) 0 ≡ factor * getD table (9 * f + 1 + k) 0
   pub old-factors : (k : ℕ) → k < n → getD fs' k 0 ≡ getD fs k 0
 
--- the same of factors and bounds
-pub record Pushed (table : List ℕ) (f m factor bound n : ℕ) (fs gs fs' gs' : List ℕ) : Type 0 where
-  pub factors-pushed : Pushed-factors table f m factor n fs fs'
-  pub new-bounds : (k : ℕ) → k < m → getD gs' (n + (m - 1 - k)) 0 ≡ bound * lifted (getD table (9 * f + 1 + k) 0)
-  pub old-bounds : (k : ℕ) → k < n → getD gs' k 0 ≡ getD gs k 0
-
 -- n factors, none above the limit
 pub record Factors (n : ℕ) (factors : List ℕ) : Type 0 where
   pub long : length factors ≡ 32
