@@ -1,4 +1,4 @@
--- `packs::read_pack` meets its contract: the laws of WholePack.antt, phase by phase.
+-- `pack_reader::read_pack` meets its contract: the laws of WholePack.antt, phase by phase.
 use mathlib.Core.Path.{_≡_, refl}
 use mathlib.Core.List.{List}
 use Prim.Native.Nat.{ℕ}

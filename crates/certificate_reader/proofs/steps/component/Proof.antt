@@ -1,4 +1,4 @@
--- `certificates::steps::component` meets its contract: its tests are those of a C record, in their order.
+-- `certificate_reader::steps::component` meets its contract: its tests are those of a C record, in their order.
 use mathlib.Core.Path.{_≡_, refl}
 use mathlib.Core.Bool.{true, _&&_, not}
 use mathlib.Core.Logic.{⊎-elim}

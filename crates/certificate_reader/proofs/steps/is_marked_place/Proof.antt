@@ -1,4 +1,4 @@
--- `certificates::steps::is_marked_place` meets its contract: a place of the symbol, and then the symbol's mark.
+-- `certificate_reader::steps::is_marked_place` meets its contract: a place of the symbol, and then the symbol's mark.
 use mathlib.Core.Path.{sym, _∙_}
 use native.Mathlib.Omega.{arith}
 use borrow.Author.Needs.{needs}

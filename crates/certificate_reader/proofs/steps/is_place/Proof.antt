@@ -1,4 +1,4 @@
--- `certificates::steps::is_place` meets its contract: its two tests are the symbol's and the place's.
+-- `certificate_reader::steps::is_place` meets its contract: its two tests are the symbol's and the place's.
 use native.Mathlib.Omega.{arith}
 use borrow.Author.Needs.{needs}
 use borrow.Author.Tests.{lt-ltb, le-ltb}

@@ -1,4 +1,4 @@
--- `certificates::steps::key` meets its contract: two numbers below 65536 make one of at most 65536 times 65536.
+-- `certificate_reader::steps::key` meets its contract: two numbers below 65536 make one of at most 65536 times 65536.
 use native.Mathlib.Omega.{arith}
 use borrow.Author.Needs.{needs}
 use Rattle.certificate_reader.specs.Working.{key}

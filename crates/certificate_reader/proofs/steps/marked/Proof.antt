@@ -1,4 +1,4 @@
--- `certificates::steps::marked` meets its contract: its tests are those of an M record, in their order.
+-- `certificate_reader::steps::marked` meets its contract: its tests are those of an M record, in their order.
 use mathlib.Core.Path.{_≡_, refl, sym, ap, _∙_}
 use mathlib.Core.Option.{some}
 use mathlib.Core.Bool.{true, _&&_}

@@ -1,4 +1,4 @@
--- `certificates::steps::pair` meets its contract: its tests are those of a P record, in their order.
+-- `certificate_reader::steps::pair` meets its contract: its tests are those of a P record, in their order.
 use mathlib.Core.Path.{_≡_, refl, sym, ap, _∙_}
 use mathlib.Core.Bool.{Bool, true, false, _&&_, cond}
 use mathlib.Core.Option.{some}

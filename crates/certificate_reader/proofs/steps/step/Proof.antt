@@ -1,4 +1,4 @@
--- `certificates::steps::step` meets its contract: the record's kind says which step it is, and the table that it may be made.
+-- `certificate_reader::steps::step` meets its contract: the record's kind says which step it is, and the table that it may be made.
 use mathlib.Core.Path.{_≡_}
 use borrow.Author.Needs.{needs}
 use Rattle.records.specs.Order.{M-marked}

@@ -1,4 +1,4 @@
--- `certificates::steps::weight` meets its contract: its tests are those of a W record, in their order.
+-- `certificate_reader::steps::weight` meets its contract: its tests are those of a W record, in their order.
 use mathlib.Core.Path.{_≡_, refl, sym, ap, _∙_}
 use mathlib.Core.Option.{some}
 use mathlib.Core.Bool.{true}

@@ -1,4 +1,4 @@
--- `packs::nodes::node_code` meets its contract, test by test.
+-- `pack_reader::nodes::node_code` meets its contract, test by test.
 use borrow.Author.Needs.{needs}
 use Rattle.terms.specs.Kept.{code}
 use Rattle.packs.specs.Reading.{node-zeros, node-of}

@@ -1,4 +1,4 @@
--- `packs::nodes::read_nodes` meets its contract. The loop's invariant: some nodes were read and are kept, and the steps of
+-- `pack_reader::nodes::read_nodes` meets its contract. The loop's invariant: some nodes were read and are kept, and the steps of
 -- the records left, with these nodes before, are the steps of all.
 use mathlib.Core.Path.{_≡_, refl, sym, ap, _∙_}
 use mathlib.Core.Bool.{true, false}

@@ -1,4 +1,4 @@
--- `packs::rules::clear` meets its contract. The loop's invariant: what was passed is zeros.
+-- `pack_reader::rules::clear` meets its contract. The loop's invariant: what was passed is zeros.
 use mathlib.Core.Path.{_≡_, refl, sym, _∙_}
 use mathlib.Core.List.{List}
 use Prim.Native.Nat.{ℕ, _+_, _-_, _≤_, _<_}

@@ -1,4 +1,4 @@
--- `packs::rules::header` meets its contract, test by test.
+-- `pack_reader::rules::header` meets its contract, test by test.
 use borrow.Author.Needs.{needs}
 use Rattle.packs.specs.Reading.{side-count}
 use Rattle.pack_reader.specs.Stored.{rule-header}

@@ -1,4 +1,4 @@
--- `packs::rules::mark_defined` meets its contract. The loop's invariant: the marks are those of the rules passed.
+-- `pack_reader::rules::mark_defined` meets its contract. The loop's invariant: the marks are those of the rules passed.
 use mathlib.Core.Path.{_≡_, _∙_}
 use mathlib.Core.Logic.{⊎-elim}
 use Prim.Native.Nat.{_+_, _*_, _-_, _≤_}

@@ -1,4 +1,4 @@
--- `packs::rules::read_rule` meets its contract: the nodes that were read are kept, so their bytes are what is judged.
+-- `pack_reader::rules::read_rule` meets its contract: the nodes that were read are kept, so their bytes are what is judged.
 use mathlib.Core.Path.{_≡_, refl, sym, ap, _∙_}
 use mathlib.Core.List.{List, _++_}
 use Prim.Native.Nat.{ℕ, _+_}

@@ -1,4 +1,4 @@
--- `packs::rules::read_rules` meets its contract. The loop's invariant, `So-far` of RulesSoFar.antt: the rules read so far are
+-- `pack_reader::rules::read_rules` meets its contract. The loop's invariant, `So-far` of RulesSoFar.antt: the rules read so far are
 -- kept, and the records left come, after these rules, to what all come to.
 use mathlib.Core.Path.{_≡_, refl, sym, ap, _∙_}
 use mathlib.Core.Logic.{⊎-elim}

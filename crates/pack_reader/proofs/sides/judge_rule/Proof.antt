@@ -1,4 +1,4 @@
--- `packs::sides::judge_rule` meets its contract, test by test.
+-- `pack_reader::sides::judge_rule` meets its contract, test by test.
 use mathlib.Core.Path.{_≡_, sym, _∙_}
 use mathlib.Core.Bool.{Bool, true, false, cond}
 use mathlib.Core.List.{List}

@@ -1,4 +1,4 @@
--- `packs::sides::left_side` meets its contract. The loop's invariant: what is left is balanced for the terms still wanted
+-- `pack_reader::sides::left_side` meets its contract. The loop's invariant: what is left is balanced for the terms still wanted
 -- exactly if the whole is for one, and the marks are those of the nodes passed.
 use mathlib.Core.Path.{_≡_, ap, refl, _∙_}
 use mathlib.Core.Logic.{⊎-elim}

@@ -1,4 +1,4 @@
--- `packs::sides::right_side` meets its contract. The loop's invariant: what is left is balanced for the terms still wanted
+-- `pack_reader::sides::right_side` meets its contract. The loop's invariant: what is left is balanced for the terms still wanted
 -- exactly if the whole is for one, and has all its marks, with the nodes passed, exactly if the whole has.
 use mathlib.Core.Path.{_≡_, refl, sym, _∙_}
 use mathlib.Core.Logic.{⊎-elim}

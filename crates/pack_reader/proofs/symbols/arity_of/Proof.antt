@@ -1,4 +1,4 @@
--- `packs::symbols::arity_of` meets its contract, test by test.
+-- `pack_reader::symbols::arity_of` meets its contract, test by test.
 use borrow.Author.Needs.{needs}
 use Rattle.pack_reader.specs.Stored.{arity-outcome}
 use Rattle.pack_reader.proofs.Tests.{tests}

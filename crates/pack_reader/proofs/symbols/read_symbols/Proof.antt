@@ -1,4 +1,4 @@
--- `packs::symbols::read_symbols` meets its contract. The loop's invariant: the steps of the records left, with the arities
+-- `pack_reader::symbols::read_symbols` meets its contract. The loop's invariant: the steps of the records left, with the arities
 -- kept so far before, are the steps of all.
 use mathlib.Core.Path.{_≡_, refl, sym, ap, _∙_}
 use mathlib.Core.Bool.{true, false}

@@ -1,4 +1,4 @@
--- `pairs::arcs::jumps` meets its contract, test by test.
+-- `pair_finder::arcs::jumps` meets its contract, test by test.
 use borrow.Author.Needs.{needs}
 use borrow.Author.Tests.{le-leb, lt-leb}
 use Rattle.pair_finder.specs.Walking.{jumps}

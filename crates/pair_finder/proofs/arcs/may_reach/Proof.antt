@@ -1,4 +1,4 @@
--- `pairs::arcs::may_reach` meets its contract. The loop's invariant: whatever two lists were asked about, two lists are still
+-- `pair_finder::arcs::may_reach` meets its contract. The loop's invariant: whatever two lists were asked about, two lists are still
 -- to be compared, and the answer is theirs.
 use mathlib.Core.Path.{_≡_, refl, sym, _∙_}
 use mathlib.Core.Bool.{true, false, not, true≢false}

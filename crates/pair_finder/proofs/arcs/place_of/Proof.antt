@@ -1,4 +1,4 @@
--- `pairs::arcs::place_of` meets its contract: its three tests are those that decide a pair of a pack that was read.
+-- `pair_finder::arcs::place_of` meets its contract: its three tests are those that decide a pair of a pack that was read.
 use Prim.Native.Nat.{_+_, _*_, _<_}
 use native.Mathlib.Omega.{arith}
 use borrow.Author.Needs.{needs}

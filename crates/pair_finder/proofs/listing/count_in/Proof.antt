@@ -1,4 +1,4 @@
--- `pairs::listing::count_in` meets its contract. The loop's invariant: what is counted and the places left are as many as the
+-- `pair_finder::listing::count_in` meets its contract. The loop's invariant: what is counted and the places left are as many as the
 -- places of the whole side.
 use mathlib.Core.Path.{_≡_, sym, ap, _∙_}
 use mathlib.Core.Logic.{⊎-elim}

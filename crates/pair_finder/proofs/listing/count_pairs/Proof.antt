@@ -1,4 +1,4 @@
--- `pairs::listing::count_pairs` meets its contract. The loop's invariant: the pairs of the first i rules are counted, and they
+-- `pair_finder::listing::count_pairs` meets its contract. The loop's invariant: the pairs of the first i rules are counted, and they
 -- are at most 32 a rule.
 use mathlib.Core.Path.{_≡_, refl}
 use Prim.Native.Nat.{_+_, _*_, _-_, _≤_}

@@ -1,4 +1,4 @@
--- `pairs::listing::is_marked` meets its contract: a symbol's byte is looked up, a variable's has no mark.
+-- `pair_finder::listing::is_marked` meets its contract: a symbol's byte is looked up, a variable's has no mark.
 use borrow.Author.Needs.{needs}
 use borrow.Author.Tests.{lt-ltb, le-ltb}
 use Rattle.pair_finder.specs.Walking.{is-marked}

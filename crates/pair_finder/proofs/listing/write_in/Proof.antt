@@ -1,4 +1,4 @@
--- `pairs::listing::write_in` meets its contract. The loop's invariant: the records of some pairs are written, and these with
+-- `pair_finder::listing::write_in` meets its contract. The loop's invariant: the records of some pairs are written, and these with
 -- the pairs at the places left are all pairs of the side.
 use mathlib.Core.Path.{_≡_, refl, sym, ap, _∙_}
 use mathlib.Core.Bool.{true, false}

@@ -1,4 +1,4 @@
--- `pairs::listing::write_pairs` meets its contract. The loop's invariant: the records of the first i rules' pairs are written.
+-- `pair_finder::listing::write_pairs` meets its contract. The loop's invariant: the records of the first i rules' pairs are written.
 use mathlib.Core.Path.{_≡_, refl, _∙_}
 use mathlib.Core.List.{List}
 use Prim.Native.Nat.{ℕ, _+_, _*_, _-_, _≤_, _<_}

@@ -1,4 +1,4 @@
--- `pairs::listing::write_record` meets its contract: eight stores are a run of eight bytes.
+-- `pair_finder::listing::write_record` meets its contract: eight stores are a run of eight bytes.
 use mathlib.Core.Path.{_≡_, _∙_}
 use mathlib.Core.List.{List, [], _∷_, _++_, append-assoc}
 use Prim.Native.Nat.{ℕ, _+_, _≤_}
