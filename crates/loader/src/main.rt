@@ -1,131 +1,168 @@
 // The loader's three questions on the command line.
 mod numbers;
 
+ghost use Prim.Native.Nat.{_≤_};
+use files::FileRead;
+use libc::STDERR_FILENO;
 use libc::STDOUT_FILENO;
 use numbers::Parsed;
 use pairs::ArcAnswer;
 use records::Answer;
+use records::Refusal;
 use teldyzhom::Checked;
-ghost use Rattle.io.specs.Counts.{Counts};
-ghost use Rattle.loader.specs.Files.{bytes-read};
 
-// How many bytes of a file were read.
-enum FileRead {
-    Bytes(usize),
-    Missing,
+// The descriptor that the script `loader` reads the status from: a program has no exit status of its own.
+const STATUS_FILENO: i32 = 3;
+
+// One byte more than the limit of a file is enough to see that it is too long.
+const PACK_ROOM: usize = 33793;
+
+const CERTIFICATE_ROOM: usize = 24577;
+
+// A list of 2,048 pairs, the most there can be.
+const LIST_ROOM: usize = 16384;
+
+// How a run ended: accepted, yes or a listing; refused or no; or nothing could be judged.
+enum Ended {
+    Good,
+    Against,
+    Unjudged,
 }
 
-fn usage() {
-    io::write_all(STDOUT_FILENO, b"usage: loader check PACK CERTIFICATE\n");
-    io::write_all(STDOUT_FILENO, b"       loader pairs PACK\n");
-    io::write_all(
-        STDOUT_FILENO,
-        b"       loader arc PACK RULE PLACE RULE PLACE\n",
-    );
-}
-
-// Reads the file that argument i names, at most as much as buf holds; says so, by name, where it cannot.
-fn read_file(i: usize, buf: &mut [u8]) -> FileRead
-    ensures { λ r. ⌜ Counts (bytes-read r) (now (buf .exit)) ⌝ }
-{
-    let mut path = io::buffer();
-    let n = os::arg(i, &mut path);
-    let fd = os::open_read(&path[..n]);
-    if fd < 0 {
-        os::fail(&path[..n]);
-        return FileRead::Missing;
+// What the run comes to once its answer was written, or not.
+fn after(written: bool, answer: Ended) -> Ended {
+    if printing::finished(written) {
+        return answer;
     }
-    let got = io::read_full(fd, buf);
-    libc::close(fd);
-    FileRead::Bytes(got)
+    Ended::Unjudged
 }
 
-fn check() {
-    let mut pack = [0u8; 33793];
-    let mut certificate = [0u8; 24577];
-    let FileRead::Bytes(n) = read_file(2, &mut pack) else {
-        return;
+// The answer's line, then the words for it.
+fn refused(x: Refusal) -> Ended {
+    if !printing::finished(printing::refused(x)) {
+        return Ended::Unjudged;
+    }
+    printing::words::tell(x);
+    Ended::Against
+}
+
+fn usage() -> Ended {
+    io::write_all(
+        STDERR_FILENO,
+        b"usage: loader check PACK CERTIFICATE\n       loader pairs PACK\n       loader arc PACK RULE PLACE RULE PLACE\n",
+    );
+    Ended::Unjudged
+}
+
+fn check(pack_at: usize, certificate_at: usize) -> Ended {
+    let mut pack = [0u8; PACK_ROOM];
+    let mut certificate = [0u8; CERTIFICATE_ROOM];
+    let FileRead::Bytes(n) = files::read_argument(pack_at, &mut pack) else {
+        return Ended::Unjudged;
     };
-    let FileRead::Bytes(m) = read_file(3, &mut certificate) else {
-        return;
+    let FileRead::Bytes(m) = files::read_argument(certificate_at, &mut certificate) else {
+        return Ended::Unjudged;
     };
     match teldyzhom::check_certificate(&pack[..n], &certificate[..m]) {
-        Checked::Accepted => {
-            io::write_all(STDOUT_FILENO, b"accepted\n");
-        }
-        Checked::Refused(x) => printing::refused(x),
+        Checked::Accepted => after(io::write_all(STDOUT_FILENO, b"accepted\n"), Ended::Good),
+        Checked::Refused(x) => refused(x),
     }
 }
 
-fn pairs_of() {
-    let mut pack = [0u8; 33793];
-    let mut list = [0u8; 16384];
-    let FileRead::Bytes(n) = read_file(2, &mut pack) else {
-        return;
+fn pairs_of(pack_at: usize) -> Ended {
+    let mut pack = [0u8; PACK_ROOM];
+    let mut list = [0u8; LIST_ROOM];
+    let FileRead::Bytes(n) = files::read_argument(pack_at, &mut pack) else {
+        return Ended::Unjudged;
     };
     match teldyzhom::list_pairs(&pack[..n], &mut list) {
-        Answer::Refused(x) => printing::refused(x),
-        Answer::Passed(k) => printing::pairs(&list, k),
+        Answer::Refused(x) => refused(x),
+        Answer::Passed(k) => after(printing::pairs(&list, k), Ended::Good),
     }
 }
 
-fn ask(rule: u32, place: u32, other_rule: u32, other_place: u32) {
-    let mut pack = [0u8; 33793];
-    let FileRead::Bytes(n) = read_file(2, &mut pack) else {
-        return;
+fn ask(pack_at: usize, rule: u32, place: u32, other_rule: u32, other_place: u32) -> Ended {
+    let mut pack = [0u8; PACK_ROOM];
+    let FileRead::Bytes(n) = files::read_argument(pack_at, &mut pack) else {
+        return Ended::Unjudged;
     };
     match teldyzhom::arc_runs(&pack[..n], rule, place, other_rule, other_place) {
-        ArcAnswer::Yes => {
-            io::write_all(STDOUT_FILENO, b"yes\n");
-        }
-        ArcAnswer::No => {
-            io::write_all(STDOUT_FILENO, b"no\n");
-        }
-        ArcAnswer::Refused(x) => printing::refused(x),
+        ArcAnswer::Yes => after(io::write_all(STDOUT_FILENO, b"yes\n"), Ended::Good),
+        ArcAnswer::No => after(io::write_all(STDOUT_FILENO, b"no\n"), Ended::Against),
+        ArcAnswer::Refused(x) => refused(x),
     }
 }
 
-fn arc() {
-    let Parsed::Number(a) = numbers::argument(3) else {
-        usage();
-        return;
+fn arc(at: usize) -> Ended
+    requires { ⌜ at ≤ 3 ⌝ }
+{
+    let Parsed::Number(a) = numbers::argument(at + 1) else {
+        return usage();
     };
-    let Parsed::Number(b) = numbers::argument(4) else {
-        usage();
-        return;
+    let Parsed::Number(b) = numbers::argument(at + 2) else {
+        return usage();
     };
-    let Parsed::Number(c) = numbers::argument(5) else {
-        usage();
-        return;
+    let Parsed::Number(c) = numbers::argument(at + 3) else {
+        return usage();
     };
-    let Parsed::Number(d) = numbers::argument(6) else {
-        usage();
-        return;
+    let Parsed::Number(d) = numbers::argument(at + 4) else {
+        return usage();
     };
-    ask(a, b, c, d);
+    ask(at, a, b, c, d)
 }
 
-fn main() {
-    let mut word = [0u8; 8];
-    let n = os::arg(1, &mut word);
-    let given = os::arg_count();
-    if given == 4 {
-        if check::same(&word[..n], b"check") {
-            check();
-            return;
-        }
-    }
+// Answers the question whose verb is argument `at`, of `given` words from the verb on.
+fn answer(at: usize, given: usize) -> Ended
+    requires { ⌜ at ≤ 2 ⌝ }
+{
     if given == 3 {
-        if check::same(&word[..n], b"pairs") {
-            pairs_of();
-            return;
+        if files::is_word(at, b"check") {
+            // Standard input has one file.
+            if files::is_input(at + 1) {
+                if files::is_input(at + 2) {
+                    return usage();
+                }
+            }
+            return check(at + 1, at + 2);
         }
     }
-    if given == 7 {
-        if check::same(&word[..n], b"arc") {
-            arc();
-            return;
+    if given == 2 {
+        if files::is_word(at, b"pairs") {
+            return pairs_of(at + 1);
         }
     }
-    usage();
+    if given == 6 {
+        if files::is_word(at, b"arc") {
+            return arc(at + 1);
+        }
+    }
+    usage()
+}
+
+fn tell_status(e: Ended) {
+    match e {
+        Ended::Good => {
+            io::write_all(STATUS_FILENO, b"0");
+        }
+        Ended::Against => {
+            io::write_all(STATUS_FILENO, b"1");
+        }
+        Ended::Unjudged => {
+            io::write_all(STATUS_FILENO, b"2");
+        }
+    }
+}
+
+// `--status` before the verb asks for the status; without it descriptor 3 may be anybody's.
+fn main() {
+    let given = os::arg_count();
+    if given < 2 {
+        usage();
+        return;
+    }
+    if files::is_word(1, b"--status") {
+        tell_status(answer(2, given - 2));
+        return;
+    }
+    answer(1, given - 1);
 }

@@ -1,13 +1,27 @@
-// What the programs print.
+// What the programs print. Each function answers whether all of it was written.
+pub mod words;
+
 ghost use Prim.Native.Nat.{_<_};
 use libc::STDOUT_FILENO;
 use records::Refusal;
 
+// Says so where not all could be written.
+pub fn finished(written: bool) -> bool {
+    if !written {
+        os::fail(b"standard output");
+    }
+    written
+}
+
 // `refused` and the number.
-pub fn refused(x: Refusal) {
-    io::write_all(STDOUT_FILENO, b"refused ");
-    io::print_decimal(STDOUT_FILENO, records::number(x) as u64);
-    io::write_all(STDOUT_FILENO, b"\n");
+pub fn refused(x: Refusal) -> bool {
+    if !io::write_all(STDOUT_FILENO, b"refused ") {
+        return false;
+    }
+    if !io::print_decimal(STDOUT_FILENO, records::number(x) as u64) {
+        return false;
+    }
+    io::write_all(STDOUT_FILENO, b"\n")
 }
 
 fn wide(x: u8) -> u64
@@ -28,24 +42,33 @@ fn two(list: &[u8], i: usize) -> u64 {
 }
 
 // One pair: rule, space, place.
-fn pair(list: &[u8], at: usize) {
+fn pair(list: &[u8], at: usize) -> bool {
     if 65536 < at {
-        return;
+        return false;
     }
-    io::print_decimal(STDOUT_FILENO, two(list, at + 2));
-    io::write_all(STDOUT_FILENO, b" ");
-    io::print_decimal(STDOUT_FILENO, two(list, at + 4));
-    io::write_all(STDOUT_FILENO, b"\n");
+    if !io::print_decimal(STDOUT_FILENO, two(list, at + 2)) {
+        return false;
+    }
+    if !io::write_all(STDOUT_FILENO, b" ") {
+        return false;
+    }
+    if !io::print_decimal(STDOUT_FILENO, two(list, at + 4)) {
+        return false;
+    }
+    io::write_all(STDOUT_FILENO, b"\n")
 }
 
 // A line a pair, from the first n records of a listing.
-pub fn pairs(list: &[u8], n: usize) {
+pub fn pairs(list: &[u8], n: usize) -> bool {
     let mut i = 0;
     while i < n {
         if 8192 <= i {
-            return;
+            return false;
         }
-        pair(list, 8 * i);
+        if !pair(list, 8 * i) {
+            return false;
+        }
         i = i + 1;
     }
+    true
 }

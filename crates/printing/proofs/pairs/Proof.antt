@@ -21,6 +21,7 @@ pairs-spec =
     (λ c. search needs)
     (λ c. omega arith)
     (λ c κs. search needs)
+    (λ c. search needs)
     (λ c. omega arith)
     (λ c. omega arith)
     (λ c. omega arith)

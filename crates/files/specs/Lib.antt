@@ -1,2 +1,2 @@
 -- What reading a file answers.
-pub mod Files
+pub mod Read
