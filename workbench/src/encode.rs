@@ -13,14 +13,19 @@ pub fn raw_record(kind: u8, zero: u8, a: u16, b: u16, c: u16) -> [u8; 8] {
     [kind, zero, a[0], a[1], b[0], b[1], c[0], c[1]]
 }
 
+/// A count as a field: one that does not fit is a mistake of the caller's, never another number.
+fn field(count: usize) -> u16 {
+    u16::try_from(count).expect("no pack or certificate made here has a count over 65,535")
+}
+
 /// The bytes of a pack.
 pub fn pack_bytes(pack: &Pack) -> Vec<u8> {
     let mut bytes = Vec::new();
     for (number, arity) in pack.arities.iter().enumerate() {
-        bytes.extend(record(b'S', number as u16, *arity, 0));
+        bytes.extend(record(b'S', field(number), *arity, 0));
     }
     for (number, rule) in pack.rules.iter().enumerate() {
-        bytes.extend(rule_bytes(number as u16, rule));
+        bytes.extend(rule_bytes(field(number), rule));
     }
     bytes
 }
@@ -28,7 +33,7 @@ pub fn pack_bytes(pack: &Pack) -> Vec<u8> {
 /// An R record and the nodes of both sides.
 pub fn rule_bytes(number: u16, rule: &Rule) -> Vec<u8> {
     let (left, right) = (side_bytes(&rule.left), side_bytes(&rule.right));
-    let mut bytes = record(b'R', number, (left.len() / 8) as u16, (right.len() / 8) as u16).to_vec();
+    let mut bytes = record(b'R', number, field(left.len() / 8), field(right.len() / 8)).to_vec();
     bytes.extend(left);
     bytes.extend(right);
     bytes
@@ -50,14 +55,14 @@ pub fn side_bytes(term: &Term) -> Vec<u8> {
 pub fn certificate_bytes(components: &[Component]) -> Vec<u8> {
     let mut bytes = Vec::new();
     for (number, component) in components.iter().enumerate() {
-        bytes.extend(component_bytes(number as u16, component));
+        bytes.extend(component_bytes(field(number), component));
     }
     bytes
 }
 
 /// A C record and what follows it.
 pub fn component_bytes(number: u16, component: &Component) -> Vec<u8> {
-    let mut bytes = record(b'C', number, u16::from(component.weighted), component.pairs.len() as u16).to_vec();
+    let mut bytes = record(b'C', number, u16::from(component.weighted), field(component.pairs.len())).to_vec();
     for (rule, place) in &component.pairs {
         bytes.extend(record(b'P', *rule, *place, 0));
     }

@@ -2,12 +2,14 @@
 
 pub mod checker;
 pub mod encode;
+pub mod files;
 pub mod generate;
 pub mod graph;
 pub mod implementation;
 #[cfg(feature = "library")]
 pub mod library;
 pub mod random;
+pub mod report;
 pub mod search;
 pub mod slow;
 pub mod text;

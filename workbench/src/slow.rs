@@ -1,6 +1,6 @@
-//! The slowest accepted files known, for the benchmark: many arc questions, many weights.
+//! The slowest accepted files known, for the benchmark: many arc questions, many weights; and the deepest ones.
 
-use crate::checker::{pairs, Component, Pack, Pair, Rule, Term};
+use crate::checker::{pairs, Component, Pack, Pair, Rule, Term, HEAVY, NODE_LIMIT, PAIR_STAYS, RULE_RISES};
 use crate::generate::packs::Base;
 
 fn apply(symbol: u16, arguments: Vec<Term>) -> Term {
@@ -109,4 +109,85 @@ fn weighted(arities: Vec<u16>, rule: Rule, count: usize, weights: impl Fn(usize)
         components[index * shares / pairs.len()].pairs.push(*pair);
     }
     Base { pack, components }
+}
+
+// ---------------------------------------------------------------- depth
+
+/// Nodes of a side at the limit.
+const NODES: usize = NODE_LIMIT as usize;
+/// The greatest weight: three of them under each other pass the limit of forms.
+const GREATEST: u16 = u16::MAX;
+
+/// A file that takes much stack, and what the check says of it.
+pub struct Deep {
+    pub name: String,
+    pub base: Base,
+    pub number: u32,
+}
+
+/// The deepest files known: sides nested as deep as can be, whose forms the quick way gives up.
+/// Symbols: 0 s that nests in its last argument, 1 f, 2 a constant, 3 t and 4 u with one argument.
+pub fn deep() -> Vec<Deep> {
+    let mut all = Vec::new();
+    for width in [1, 2, 8] {
+        for leaf in [Term::Variable(0), apply(2, vec![])] {
+            all.extend(deep_in(width, &leaf));
+        }
+        all.extend(deep_over_nothing(width));
+    }
+    all.push(deep_calls());
+    all
+}
+
+/// Both sides the same, with all nodes they may have.
+fn deep_in(width: u16, leaf: &Term) -> Vec<Deep> {
+    let side = apply(1, vec![nested(width, NODES - 1, leaf)]);
+    let rule = Rule { left: side.clone(), right: side };
+    let heavy_root = Component { marked: [((1, 1), GREATEST)].into(), ..component(&[(0, 0, GREATEST), (0, width, 1)]) };
+    vec![
+        deep_file("pair stays", width, leaf, &rule, component(&[]), PAIR_STAYS),
+        deep_file("equal sides", width, leaf, &rule, component(&[(0, 0, 1), (0, width, 1), (1, 1, 1)]), PAIR_STAYS),
+        deep_file("heavy pair", width, leaf, &rule, heavy_root, HEAVY),
+        deep_file("heavy rule", width, leaf, &rule, component(&[(0, 0, GREATEST), (0, width, GREATEST)]), HEAVY),
+    ]
+}
+
+/// Great weights over what weighs nothing: no form is heavy, but only the exact way sees it.
+fn deep_over_nothing(width: u16) -> Vec<Deep> {
+    let leaf = apply(2, vec![]);
+    let shell = |symbol: u16, inside: u16| apply(symbol, vec![apply(inside, vec![nested(width, NODES - 2, &leaf)])]);
+    let weights = component(&[(0, width, GREATEST), (3, 0, 1), (3, 1, 1), (1, 1, 1)]);
+    let falling = Rule { left: shell(1, 3), right: apply(1, vec![nested(width, NODES - 1, &leaf)]) };
+    let rising = Rule { left: falling.right.clone(), right: shell(3, 1) };
+    vec![
+        deep_file("accepted", width, &leaf, &falling, weights.clone(), 0),
+        deep_file("rule rises", width, &leaf, &rising, weights, RULE_RISES),
+    ]
+}
+
+/// As many pairs as can be, each under the one before, and none falls.
+fn deep_calls() -> Deep {
+    let left = apply(1, vec![chain(0, NODES - 2, Term::Variable(0))]);
+    let right = chain(1, NODES - 1, Term::Variable(0));
+    let base = weighted(vec![1, 1], Rule { left, right }, 1, |_| component(&[]));
+    Deep { name: "deep calls".to_string(), base, number: PAIR_STAYS }
+}
+
+fn deep_file(aim: &str, width: u16, leaf: &Term, rule: &Rule, weights: Component, number: u32) -> Deep {
+    let end = if matches!(leaf, Term::Variable(_)) { "variable" } else { "constant" };
+    let pack = Pack { arities: vec![width, 1, 0, 1, 1], rules: vec![rule.clone()] };
+    let components = vec![Component { pairs: pairs(&pack), ..weights }];
+    let name = format!("deep, {aim}, {width} wide, over a {end}");
+    Deep { name, base: Base { pack, components }, number }
+}
+
+/// So many nodes: symbols s, each in the last argument of the one before, and u where no more s fits.
+fn nested(width: u16, nodes: usize, leaf: &Term) -> Term {
+    let width = usize::from(width);
+    let inside = chain(4, (nodes - 1) % width, leaf.clone());
+    (0..(nodes - 1) / width).fold(inside, |term, _| {
+        let mut arguments = vec![leaf.clone(); width - 1];
+        arguments.push(term);
+        apply(0, arguments)
+    })
 }

@@ -4,45 +4,8 @@ use workbench::generate::packs::{dense, guided, Size};
 use workbench::generate::{case, spoil};
 use workbench::graph::{graph, is_ordered};
 use workbench::random::Random;
-use workbench::text::{assemble_certificate, assemble_pack, disassemble_certificate, disassemble_pack};
+use workbench::text::{disassemble_certificate, disassemble_pack};
 use workbench::{checker, encode, slow, tuned};
-
-/// Any file's text gives back its bytes, damaged ones too.
-#[test]
-fn texts_give_back_the_bytes() {
-    for seed in 0..2_000 {
-        let case = case(seed);
-        assert_eq!(assemble_pack(&disassemble_pack(&case.pack)).unwrap(), case.pack, "pack of seed {seed}");
-        let named = disassemble_certificate(&case.certificate, &case.pack);
-        assert_eq!(assemble_certificate(&named).unwrap(), case.certificate, "certificate of seed {seed}");
-        let bare = disassemble_certificate(&case.certificate, &[]);
-        assert_eq!(assemble_certificate(&bare).unwrap(), case.certificate, "bare certificate of seed {seed}");
-    }
-}
-
-/// Valid packs are shown as terms, not as records.
-#[test]
-fn valid_files_are_readable() {
-    for seed in 0..200 {
-        let base = guided(&mut Random::new(seed), Size::Small);
-        assert!(!disassemble_pack(&encode::pack_bytes(&base.pack)).contains("record"));
-        assert!(!disassemble_certificate(&encode::certificate_bytes(&base.components), &[]).contains("record"));
-    }
-}
-
-#[test]
-fn names_get_the_numbers_not_written_out() {
-    let bytes = assemble_pack("symbols f/3\nf(y, #0, z) -> f(#0, z, y)").unwrap();
-    assert_eq!(disassemble_pack(&bytes), "symbols f0/3\nf0(#1, #0, #2) -> f0(#0, #2, #1)\n");
-}
-
-#[test]
-fn wrong_texts_name_their_line() {
-    assert!(assemble_pack("symbols f/1\ng(x) -> x").unwrap_err().starts_with("line 2"));
-    assert!(assemble_pack("symbols f/1\nf(x -> x").unwrap_err().starts_with("line 2"));
-    assert!(assemble_certificate("pair 0 0").unwrap_err().starts_with("line 1"));
-    assert!(assemble_certificate("component\nweight f = 1").unwrap_err().starts_with("line 2"));
-}
 
 /// No bytes whatever make an implementation panic, and they agree.
 #[test]

@@ -1,30 +1,28 @@
-//! `assemble pack|cert TEXT FILE`: from a readable text to the file's bytes.
+//! `assemble [--loose] pack|cert TEXT FILE`: from a readable text to the file's bytes.
 
 use std::process::ExitCode;
-use workbench::text::{assemble_certificate, assemble_pack};
+use workbench::files;
+use workbench::report::{run, Arguments, Failure};
+use workbench::text::{assemble_certificate, assemble_pack, Mode};
+
+const USAGE: &str = "assemble [--loose] pack|cert TEXT FILE";
+const LOOSE: &str = "--loose";
 
 fn main() -> ExitCode {
-    let arguments: Vec<String> = std::env::args().skip(1).collect();
-    let answer = match &arguments[..] {
-        [kind, from, to] if kind == "pack" => write(from, to, assemble_pack),
-        [kind, from, to] if kind == "cert" => write(from, to, assemble_certificate),
-        _ => {
-            eprintln!("assemble pack|cert TEXT FILE");
-            return ExitCode::from(2);
-        }
-    };
-    if let Err(why) = &answer {
-        eprintln!("{why}");
-    }
-    if answer.is_ok() {
-        ExitCode::SUCCESS
-    } else {
-        ExitCode::FAILURE
-    }
+    run(USAGE, &[LOOSE], assemble)
 }
 
-fn write(from: &str, to: &str, assemble: fn(&str) -> Result<Vec<u8>, String>) -> Result<(), String> {
-    let text = std::fs::read_to_string(from).map_err(|why| format!("{from}: {why}"))?;
-    let bytes = assemble(&text).map_err(|why| format!("{from}: {why}"))?;
-    std::fs::write(to, bytes).map_err(|why| format!("{to}: {why}"))
+fn assemble(arguments: Arguments) -> Result<(), Failure> {
+    let mode = if arguments.has(LOOSE) { Mode::Loose } else { Mode::Strict };
+    let [kind, from, to] = &arguments.words[..] else {
+        return Err(Failure::Usage(format!("{} words; three are wanted", arguments.words.len())));
+    };
+    let assemble = match kind.as_str() {
+        "pack" => assemble_pack,
+        "cert" => assemble_certificate,
+        _ => return Err(Failure::Usage(format!("{kind:?} is neither pack nor cert"))),
+    };
+    let text = files::read_text(from)?;
+    let bytes = assemble(&text, mode).map_err(|why| Failure::Refused(format!("{from}: {why}")))?;
+    files::write(to, &bytes)
 }

@@ -5,13 +5,19 @@
 //! `bench [rounds]`: more rounds, steadier ratios (20 by default).
 
 use std::hint::black_box;
+use std::process::ExitCode;
 use std::time::{Duration, Instant};
 use workbench::checker::{is_defined, judge_pack, pairs};
 use workbench::encode::{certificate_bytes, pack_bytes};
 use workbench::generate::packs::{dense, guided, Base, Size};
 use workbench::implementation::{all, Implementation};
 use workbench::random::Random;
+use workbench::report::{number, run, say, Arguments, Failure};
 use workbench::slow;
+
+const USAGE: &str = "bench [rounds], 1 to 10000, 20 by default";
+const ROUNDS: u64 = 20;
+const MOST_ROUNDS: u64 = 10_000;
 
 /// Files that are checked one after the other, and a question for each pack.
 struct Workload {
@@ -30,13 +36,21 @@ type Job<'a> = &'a dyn Fn(&dyn Implementation) -> u32;
 
 struct Bench {
     implementations: Vec<Box<dyn Implementation>>,
-    rounds: usize,
+    rounds: u64,
 }
 
-fn main() {
-    let rounds = std::env::args().nth(1).and_then(|word| word.parse().ok()).unwrap_or(20);
+fn main() -> ExitCode {
+    run(USAGE, &[], bench)
+}
+
+fn bench(arguments: Arguments) -> Result<(), Failure> {
+    let rounds = match &arguments.words[..] {
+        [] => ROUNDS,
+        [rounds] => number(rounds, 1, MOST_ROUNDS)?,
+        words => return Err(Failure::Usage(format!("{} words; at most one is wanted", words.len()))),
+    };
     let bench = Bench { implementations: all(), rounds };
-    println!("time of each in times of the tuned one; at the end the greatest number each answered\n");
+    say("time of each in times of the tuned one; at the end the greatest number each answered\n");
     bench.header("check");
     for workload in workloads() {
         bench.ratios(&workload.name, &|one| check_all(one, &workload));
@@ -49,11 +63,12 @@ fn main() {
     for workload in workloads().iter().take(7) {
         bench.ratios(&workload.name, &|one| ask_all(one, workload));
     }
-    println!("\ngrowth of check: time of each in times of its own time one line above\n");
+    say("\ngrowth of check: time of each in times of its own time one line above\n");
     bench.growth("pairs in one component", &[127, 255, 511, 1_023, 2_047], pairs_base);
     bench.growth("pairs without weights", &[64, 128, 256, 512], |pairs| slow::few_arcs(pairs / 64));
     bench.growth("components, weights differ", &[27, 54, 109, 218, 437], |count| slow::chains(count, true));
     bench.growth("components, weights equal", &[27, 54, 109, 218, 437], |count| slow::chains(count, false));
+    Ok(())
 }
 
 // ---------------------------------------------------------------- files
@@ -127,7 +142,7 @@ impl Bench {
     fn header(&self, what: &str) {
         let names: Vec<String> = self.implementations.iter().map(|one| format!("{:>9}", one.name())).collect();
         let (space, what) = what.split_at(what.len() - what.trim_start().len());
-        println!("{space}{what:<34}{}  answers", names.concat());
+        say(format_args!("{space}{what:<34}{}  answers", names.concat()));
     }
 
     /// One line: all in times of the tuned one.
@@ -151,13 +166,13 @@ impl Bench {
             self.line(&size.to_string(), factors, job);
             before = times.into_iter().map(Some).collect();
         }
-        println!();
+        say("");
     }
 
     fn line(&self, name: &str, numbers: impl Iterator<Item = Option<f64>>, job: Job) {
         let numbers: Vec<String> = numbers.map(|n| n.map_or(format!("{:>9}", "-"), |n| format!("{n:>9.2}"))).collect();
         let answers: Vec<String> = self.implementations.iter().map(|one| job(one.as_ref()).to_string()).collect();
-        println!("{name:<34}{}  {}", numbers.concat(), answers.join(" "));
+        say(format_args!("{name:<34}{}  {}", numbers.concat(), answers.join(" ")));
     }
 
     /// The shortest of some rounds, taken in turns so that all meet the same weather.

@@ -6,7 +6,14 @@
 use std::process::ExitCode;
 use workbench::generate::{case, Case};
 use workbench::implementation::{by_name, Implementation};
+use workbench::report::{number, run, say, Arguments, Failure};
 use workbench::text::{disassemble_certificate, disassemble_pack};
+
+const USAGE: &str = "compare [count] [seed] [one] [other]; \
+    implementations: checker, tuned, library (with the feature library)";
+const COUNT: u64 = 200_000;
+const SEED: u64 = 1;
+const OTHER: &str = if cfg!(feature = "library") { "library" } else { "tuned" };
 
 /// What stands in a lent list before the call.
 const PATTERN: u8 = 0xA7;
@@ -21,39 +28,55 @@ struct Counts {
 }
 
 fn main() -> ExitCode {
-    let arguments: Vec<String> = std::env::args().skip(1).collect();
-    let number = |at: usize, default: u64| arguments.get(at).map_or(Some(default), |word| word.parse().ok());
-    let (Some(count), Some(seed)) = (number(0, 200_000), number(1, 1)) else {
-        return usage();
-    };
-    let name = |at: usize, default: &'static str| arguments.get(at).map_or(default, |word| word.as_str()).to_string();
-    let default = if cfg!(feature = "library") { "library" } else { "tuned" };
-    let (Some(one), Some(other)) = (by_name(&name(2, "checker")), by_name(&name(3, default))) else {
-        return usage();
-    };
-    run(one.as_ref(), other.as_ref(), seed, count)
+    run(USAGE, &[], |arguments| compare_all(&Comparison::read(&arguments)?))
 }
 
-fn usage() -> ExitCode {
-    eprintln!(
-        "compare [count] [seed] [one] [other]; implementations: checker, tuned, library (with the feature library)"
-    );
-    ExitCode::from(2)
+/// Which implementations are compared, and on which cases.
+struct Comparison {
+    one: Box<dyn Implementation>,
+    other: Box<dyn Implementation>,
+    seed: u64,
+    count: u64,
 }
 
-fn run(one: &dyn Implementation, other: &dyn Implementation, seed: u64, count: u64) -> ExitCode {
-    println!("{} against {}, {count} cases from seed {seed}", one.name(), other.name());
-    let mut counts = Counts::default();
-    for seed in seed..seed.wrapping_add(count) {
-        let case = case(seed);
-        if let Err(difference) = compare(one, other, &case, &mut counts) {
-            report(one, other, seed, &case, &difference);
-            return ExitCode::FAILURE;
+impl Comparison {
+    fn read(arguments: &Arguments) -> Result<Comparison, Failure> {
+        let words = &arguments.words;
+        let word = |at: usize| words.get(at).map(String::as_str);
+        if words.len() > 4 {
+            return Err(Failure::Usage(format!("{} words; at most four are wanted", words.len())));
         }
+        let count = word(0).map_or(Ok(COUNT), |word| number(word, 1, u64::MAX))?;
+        let seed = word(1).map_or(Ok(SEED), |word| number(word, 0, u64::MAX))?;
+        if seed.checked_add(count).is_none() {
+            return Err(Failure::Usage(format!("{count} cases from seed {seed} pass the greatest seed")));
+        }
+        let (one, other) = (named(word(2).unwrap_or("checker"))?, named(word(3).unwrap_or(OTHER))?);
+        Ok(Comparison { one, other, seed, count })
+    }
+}
+
+fn named(name: &str) -> Result<Box<dyn Implementation>, Failure> {
+    by_name(name).ok_or_else(|| Failure::Usage(format!("{name:?} is no implementation here")))
+}
+
+fn compare_all(comparison: &Comparison) -> Result<(), Failure> {
+    let Comparison { one, other, seed, count } = comparison;
+    let (one, other) = (one.as_ref(), other.as_ref());
+    say(format_args!("{} against {}, {count} cases from seed {seed}", one.name(), other.name()));
+    let mut counts = Counts::default();
+    for seed in *seed..seed + count {
+        let case = case(seed);
+        compare(one, other, &case, &mut counts).map_err(|difference| {
+            let difference = format!("seed {seed}: {} and {} differ in {difference}", one.name(), other.name());
+            say(&difference);
+            show(&case);
+            Failure::Refused(difference)
+        })?;
     }
     counts.print();
-    println!("no difference");
-    ExitCode::SUCCESS
+    say("no difference");
+    Ok(())
 }
 
 /// Asks both everything the case holds; the text names the first difference.
@@ -107,22 +130,20 @@ fn count(counts: &mut [u64; 16], number: u32) {
     counts[number.min(15) as usize] += 1;
 }
 
-fn report(one: &dyn Implementation, other: &dyn Implementation, seed: u64, case: &Case, difference: &str) {
-    println!("seed {seed}: {} and {} differ in {difference}", one.name(), other.name());
-    println!("--- pack, {} bytes\n{}", case.pack.len(), disassemble_pack(&case.pack));
-    println!(
-        "--- certificate, {} bytes\n{}",
-        case.certificate.len(),
-        disassemble_certificate(&case.certificate, &case.pack)
-    );
+/// Both files of a case as text.
+fn show(case: &Case) {
+    let certificate = disassemble_certificate(&case.certificate, &case.pack);
+    say(format_args!("--- pack, {} bytes\n{}", case.pack.len(), disassemble_pack(&case.pack)));
+    say(format_args!("--- certificate, {} bytes\n{certificate}", case.certificate.len()));
 }
 
 impl Counts {
     fn print(&self) {
-        println!("{:>6} {:>9} {:>9} {:>9}", "answer", "checks", "lists", "arcs");
+        say(format_args!("{:>6} {:>9} {:>9} {:>9}", "answer", "checks", "lists", "arcs"));
         for number in 0..15 {
-            println!("{number:>6} {:>9} {:>9} {:>9}", self.checks[number], self.lists[number], self.arcs[number]);
+            let (checks, lists, arcs) = (self.checks[number], self.lists[number], self.arcs[number]);
+            say(format_args!("{number:>6} {checks:>9} {lists:>9} {arcs:>9}"));
         }
-        println!("{} of the arc answers 0 are yes, {} no", self.yes, self.arcs[0] - self.yes);
+        say(format_args!("{} of the arc answers 0 are yes, {} no", self.yes, self.arcs[0] - self.yes));
     }
 }

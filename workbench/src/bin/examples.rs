@@ -1,31 +1,48 @@
 //! `check-examples [--write] [FOLDER]`: assembles every example's text anew, compares it with the shipped
 //! bytes (or writes them), and holds all implementations to the expected answers.
+//!
+//! The texts that `loose.txt` names are wrong on purpose: strict mode must refuse them, loose mode assembles them.
 
-use std::fs;
 use std::path::{Path, PathBuf};
 use std::process::ExitCode;
+use workbench::checker::PAIR_LIMIT;
+use workbench::files::{read, read_text, write};
 use workbench::implementation::{all, Implementation};
-use workbench::text::{assemble_certificate, assemble_pack, disassemble_certificate, disassemble_pack};
+use workbench::report::{run, say, Arguments, Failure};
+use workbench::text::{
+    assemble_certificate, assemble_pack, digits, disassemble_certificate, disassemble_pack, mode_of, Mode,
+};
 
-type Answer<T> = Result<T, String>;
+type Answer<T> = Result<T, Failure>;
+
+const USAGE: &str = "check-examples [--write] [FOLDER]";
+const WRITE: &str = "--write";
+/// The texts that only loose mode assembles.
+const LOOSE_LIST: &str = "loose.txt";
+/// No lent list is larger.
+const ROOM_LIMIT: u32 = 1 << 20;
 
 fn main() -> ExitCode {
-    let mut arguments: Vec<String> = std::env::args().skip(1).collect();
-    let write = arguments.first().is_some_and(|word| word == "--write");
-    if write {
-        arguments.remove(0);
+    run(USAGE, &[WRITE], check_examples)
+}
+
+fn check_examples(arguments: Arguments) -> Answer<()> {
+    let folder = match &arguments.words[..] {
+        [] => default_folder(),
+        [folder] => PathBuf::from(folder),
+        words => return Err(Failure::Usage(format!("{} words; at most one is wanted", words.len()))),
+    };
+    let files = assemble_all(&folder, arguments.has(WRITE))?;
+    let mut asked = 0;
+    for implementation in all() {
+        asked += checks(&folder, implementation.as_ref())?;
+        asked += lists(&folder, implementation.as_ref())?;
+        asked += arcs(&folder, implementation.as_ref())?;
+        asked += pair_files(&folder, implementation.as_ref())?;
     }
-    let folder = arguments.first().map_or_else(default_folder, PathBuf::from);
-    match run(&folder, write) {
-        Ok(report) => {
-            println!("{report}");
-            ExitCode::SUCCESS
-        }
-        Err(why) => {
-            println!("{why}");
-            ExitCode::FAILURE
-        }
-    }
+    let names: Vec<&str> = all().iter().map(|one| one.name()).collect();
+    say(format_args!("{files} files as their texts say; {asked} answers of {} as expected", names.join(", ")));
+    Ok(())
 }
 
 /// The folder `examples` beside this package.
@@ -33,83 +50,110 @@ fn default_folder() -> PathBuf {
     Path::new(env!("CARGO_MANIFEST_DIR")).join("../examples")
 }
 
-fn run(folder: &Path, write: bool) -> Answer<String> {
-    let files = assemble_all(folder, write)?;
-    let mut asked = 0;
-    for implementation in all() {
-        asked += checks(folder, implementation.as_ref())?;
-        asked += lists(folder, implementation.as_ref())?;
-        asked += arcs(folder, implementation.as_ref())?;
-        asked += pair_files(folder, implementation.as_ref())?;
-    }
-    let names: Vec<&str> = all().iter().map(|one| one.name()).collect();
-    Ok(format!("{files} files as their texts say; {asked} answers of {} as expected", names.join(", ")))
-}
-
 /// Every `.pack.txt` and `.cert.txt`; answers how many.
-fn assemble_all(folder: &Path, write: bool) -> Answer<usize> {
+fn assemble_all(folder: &Path, anew: bool) -> Answer<usize> {
+    let mut loose = loose_texts(folder)?;
     let mut count = 0;
     for name in names(folder)? {
-        let Some(file) = name.strip_suffix(".txt") else {
+        let Some(file) = name.strip_suffix(".txt").filter(|file| kind(file).is_some()) else {
             continue;
         };
-        let text = read_text(&folder.join(&name))?;
-        let bytes = match file.rsplit_once('.') {
-            Some((_, "pack")) => assemble_pack(&text),
-            Some((_, "cert")) => assemble_certificate(&text),
-            _ => continue,
-        };
-        let bytes = bytes.map_err(|why| format!("{name}: {why}"))?;
-        if write {
-            fs::write(folder.join(file), &bytes).map_err(|why| format!("{file}: {why}"))?;
+        let listed = loose.iter().position(|other| *other == name).map(|at| loose.remove(at));
+        let text = read_text(folder.join(&name))?;
+        let bytes = if listed.is_some() { assemble_wrong(&name, &text) } else { assemble(&name, &text, Mode::Strict) }?;
+        if anew {
+            write(folder.join(file), &bytes)?;
         }
         compare(folder, file, &bytes)?;
         count += 1;
     }
-    Ok(count)
+    match loose.first() {
+        None => Ok(count),
+        Some(name) => Err(Failure::CouldNotRun(format!("{LOOSE_LIST}: {name:?} is no text here, or stands twice"))),
+    }
+}
+
+/// `pack` or `cert`, from the name of a file or of its text.
+fn kind(name: &str) -> Option<&str> {
+    let (_, kind) = name.strip_suffix(".txt").unwrap_or(name).rsplit_once('.')?;
+    ["pack", "cert"].contains(&kind).then_some(kind)
+}
+
+fn assemble(name: &str, text: &str, mode: Mode) -> Answer<Vec<u8>> {
+    let bytes = if kind(name) == Some("pack") { assemble_pack(text, mode) } else { assemble_certificate(text, mode) };
+    bytes.map_err(|why| Failure::Refused(format!("{name}: {why}")))
+}
+
+/// A text that is wrong on purpose.
+fn assemble_wrong(name: &str, text: &str) -> Answer<Vec<u8>> {
+    match assemble(name, text, Mode::Strict) {
+        Ok(_) => Err(Failure::Refused(format!("{name}: strict mode takes it though {LOOSE_LIST} names it"))),
+        Err(_) => assemble(name, text, Mode::Loose),
+    }
 }
 
 /// The shipped bytes are the assembled ones, and their disassembly gives them back.
 fn compare(folder: &Path, file: &str, bytes: &[u8]) -> Answer<()> {
-    if read(&folder.join(file))? != bytes {
-        return Err(format!("{file}: the shipped bytes are not those of its text"));
+    if read(folder.join(file))? != bytes {
+        return Err(Failure::Refused(format!("{file}: the shipped bytes are not those of its text")));
     }
-    let again = if file.ends_with(".pack") {
-        assemble_pack(&disassemble_pack(bytes))?
-    } else {
-        assemble_certificate(&disassemble_certificate(bytes, &[]))?
-    };
-    if again == bytes {
+    let is_pack = kind(file) == Some("pack");
+    let text = if is_pack { disassemble_pack(bytes) } else { disassemble_certificate(bytes, &[]) };
+    if assemble(file, &text, mode_of(&text))? == bytes {
         Ok(())
     } else {
-        Err(format!("{file}: its disassembly is another file"))
+        Err(Failure::Refused(format!("{file}: its disassembly is another file")))
     }
 }
 
+/// The names in a folder, all of them: what cannot be read is not passed over.
 fn names(folder: &Path) -> Answer<Vec<String>> {
-    let entries = fs::read_dir(folder).map_err(|why| format!("{}: {why}", folder.display()))?;
-    let mut names: Vec<String> = entries.flatten().filter_map(|entry| entry.file_name().into_string().ok()).collect();
+    let failure = |why: &dyn std::fmt::Display| Failure::CouldNotRun(format!("{}: {why}", folder.display()));
+    let mut names = Vec::new();
+    for entry in std::fs::read_dir(folder).map_err(|why| failure(&why))? {
+        let name = entry.map_err(|why| failure(&why))?.file_name();
+        names.push(name.into_string().map_err(|name| failure(&format!("{name:?} is no UTF-8")))?);
+    }
     names.sort();
     Ok(names)
 }
 
-fn read(path: &Path) -> Answer<Vec<u8>> {
-    fs::read(path).map_err(|why| format!("{}: {why}", path.display()))
+/// The names in the list, one a line.
+fn loose_texts(folder: &Path) -> Answer<Vec<String>> {
+    let lines = table(folder, LOOSE_LIST)?;
+    lines
+        .into_iter()
+        .map(|line| match &line[..] {
+            [name] => Ok(name.clone()),
+            _ => Err(odd_line(LOOSE_LIST, &line)),
+        })
+        .collect()
 }
 
-fn read_text(path: &Path) -> Answer<String> {
-    fs::read_to_string(path).map_err(|why| format!("{}: {why}", path.display()))
+fn odd_line(name: &str, line: &[String]) -> Failure {
+    Failure::CouldNotRun(format!("{name}: {:?} is not understood", line.join(" ")))
 }
 
 /// The lines of a table, as words.
 fn table(folder: &Path, name: &str) -> Answer<Vec<Vec<String>>> {
-    let text = read_text(&folder.join(name))?;
+    let text = read_text(folder.join(name))?;
     let lines = text.lines().filter(|line| !line.starts_with(';') && !line.trim().is_empty());
-    Ok(lines.map(|line| line.split_whitespace().map(str::to_string).collect()).collect())
+    let lines: Vec<Vec<String>> = lines.map(|line| line.split_whitespace().map(str::to_string).collect()).collect();
+    if lines.is_empty() {
+        return Err(Failure::CouldNotRun(format!("{name}: no line to hold anything to")));
+    }
+    Ok(lines)
 }
 
 fn number(word: &str) -> Answer<u32> {
-    word.parse().map_err(|_| format!("{word:?} is no number"))
+    digits(word).ok_or_else(|| Failure::CouldNotRun(format!("{word:?} is no number in a table")))
+}
+
+fn room(word: &str) -> Answer<usize> {
+    match number(word)? {
+        room if room <= ROOM_LIMIT => Ok(room as usize),
+        room => Err(Failure::CouldNotRun(format!("{room} bytes is no room; at most {ROOM_LIMIT} is wanted"))),
+    }
 }
 
 /// `pack certificate answer`
@@ -117,9 +161,9 @@ fn checks(folder: &Path, implementation: &dyn Implementation) -> Answer<usize> {
     let lines = table(folder, "expected.txt")?;
     for line in &lines {
         let [pack, certificate, answer] = &line[..] else {
-            return Err(format!("expected.txt: {line:?}"));
+            return Err(odd_line("expected.txt", line));
         };
-        let got = implementation.check(&read(&folder.join(pack))?, &read(&folder.join(certificate))?);
+        let got = implementation.check(&read(folder.join(pack))?, &read(folder.join(certificate))?);
         expect(implementation, line, number(answer)?, got)?;
     }
     Ok(lines.len())
@@ -129,11 +173,11 @@ fn checks(folder: &Path, implementation: &dyn Implementation) -> Answer<usize> {
 fn lists(folder: &Path, implementation: &dyn Implementation) -> Answer<usize> {
     let lines = table(folder, "expected-lists.txt")?;
     for line in &lines {
-        let [pack, room, answer, count] = &line[..] else {
-            return Err(format!("expected-lists.txt: {line:?}"));
+        let [pack, size, answer, count] = &line[..] else {
+            return Err(odd_line("expected-lists.txt", line));
         };
-        let mut list = vec![0xA7; number(room)? as usize];
-        let got = implementation.list(&read(&folder.join(pack))?, &mut list);
+        let mut list = vec![0xA7; room(size)?];
+        let got = implementation.list(&read(folder.join(pack))?, &mut list);
         expect(implementation, line, (number(answer)?, number(count)?), got)?;
     }
     Ok(lines.len())
@@ -144,11 +188,16 @@ fn arcs(folder: &Path, implementation: &dyn Implementation) -> Answer<usize> {
     let lines = table(folder, "expected-arcs.txt")?;
     for line in &lines {
         let [pack, rule, place, other_rule, other_place, answer, yes] = &line[..] else {
-            return Err(format!("expected-arcs.txt: {line:?}"));
+            return Err(odd_line("expected-arcs.txt", line));
         };
         let question = [number(rule)?, number(place)?, number(other_rule)?, number(other_place)?];
-        let got = implementation.arc(&read(&folder.join(pack))?, question);
-        expect(implementation, line, (number(answer)?, u32::from(yes == "yes")), got)?;
+        let got = implementation.arc(&read(folder.join(pack))?, question);
+        let yes = match yes.as_str() {
+            "yes" => 1,
+            "no" => 0,
+            _ => return Err(odd_line("expected-arcs.txt", line)),
+        };
+        expect(implementation, line, (number(answer)?, yes), got)?;
     }
     Ok(lines.len())
 }
@@ -160,11 +209,11 @@ fn pair_files(folder: &Path, implementation: &dyn Implementation) -> Answer<usiz
         let Some(stem) = name.strip_suffix(".pairs") else {
             continue;
         };
-        let pack = read(&folder.join(format!("{stem}.pack")))?;
+        let pack = read(folder.join(format!("{stem}.pack")))?;
         expect(
             implementation,
             std::slice::from_ref(&name),
-            read_text(&folder.join(&name))?,
+            read_text(folder.join(&name))?,
             printed(implementation, &pack),
         )?;
         count += 1;
@@ -174,7 +223,7 @@ fn pair_files(folder: &Path, implementation: &dyn Implementation) -> Answer<usiz
 
 /// One line a pair, or the refusal.
 fn printed(implementation: &dyn Implementation, pack: &[u8]) -> String {
-    let mut list = vec![0; 2_048 * 8];
+    let mut list = vec![0; usize::from(PAIR_LIMIT) * 8];
     let (number, count) = implementation.list(pack, &mut list);
     if number != 0 {
         return format!("refused {number}\n");
@@ -193,6 +242,7 @@ fn expect<T: PartialEq + std::fmt::Debug>(
     if wanted == got {
         Ok(())
     } else {
-        Err(format!("{}: {} answers {got:?}, not {wanted:?}", line.join(" "), implementation.name()))
+        let name = implementation.name();
+        Err(Failure::Refused(format!("{}: {name} answers {got:?}, not {wanted:?}", line.join(" "))))
     }
 }

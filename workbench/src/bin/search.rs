@@ -3,37 +3,41 @@
 use std::process::ExitCode;
 use workbench::checker::{check, judge_pack};
 use workbench::encode::certificate_bytes;
+use workbench::files::read_text;
+use workbench::report::{number, print, run, Arguments, Failure};
 use workbench::search::{certificate, Effort};
-use workbench::text::{assemble_pack, certificate_text, declared_symbols};
+use workbench::text::{assemble_pack, certificate_text, declared_names, Mode};
+
+const USAGE: &str = "search PACK.txt [restarts], 60 restarts by default";
+const RESTARTS: u64 = 60;
+const MOST_RESTARTS: u64 = 1_000_000;
+const STEPS: usize = 300;
+const GREATEST_WEIGHT: u16 = 3;
 
 fn main() -> ExitCode {
-    let arguments: Vec<String> = std::env::args().skip(1).collect();
-    let restarts = arguments.get(1).and_then(|word| word.parse().ok()).unwrap_or(60);
-    match arguments.first().map(|path| search(path, restarts)) {
-        Some(Ok(text)) => {
-            print!("{text}");
-            ExitCode::SUCCESS
-        }
-        Some(Err(why)) => {
-            eprintln!("{why}");
-            ExitCode::FAILURE
-        }
-        None => {
-            eprintln!("search PACK.txt [restarts]");
-            ExitCode::from(2)
-        }
-    }
+    run(USAGE, &[], search)
 }
 
-fn search(path: &str, restarts: usize) -> Result<String, String> {
-    let text = std::fs::read_to_string(path).map_err(|why| format!("{path}: {why}"))?;
-    let file = assemble_pack(&text)?;
+fn search(arguments: Arguments) -> Result<(), Failure> {
+    let (path, restarts) = match &arguments.words[..] {
+        [path] => (path, RESTARTS),
+        [path, restarts] => (path, number(restarts, 1, MOST_RESTARTS)?),
+        words => return Err(Failure::Usage(format!("{} words; one or two are wanted", words.len()))),
+    };
+    let effort = Effort { restarts: restarts as usize, steps: STEPS, greatest: GREATEST_WEIGHT };
+    let text = read_text(path)?;
+    print(found_text(&text, effort).map_err(|why| Failure::Refused(format!("{path}: {why}")))?);
+    Ok(())
+}
+
+/// The text of a certificate that is accepted.
+fn found_text(text: &str, effort: Effort) -> Result<String, String> {
+    let file = assemble_pack(text, Mode::Strict)?;
     let pack = judge_pack(&file).map_err(|number| format!("the pack is refused with {number}"))?;
-    let effort = Effort { restarts, steps: 300, greatest: 3 };
     let components = certificate(&pack, effort).map_err(|pairs| format!("no weights found for {pairs:?}"))?;
     let bytes = certificate_bytes(&components);
     match check(&file, &bytes) {
-        0 => Ok(certificate_text(&bytes, &declared_symbols(&text)?)),
+        0 => Ok(certificate_text(&bytes, &declared_names(text, Mode::Strict)?)),
         number => Err(format!("the certificate found is refused with {number}")),
     }
 }
