@@ -1,0 +1,47 @@
+# Sourced by ./test: what the transcripts need around them.
+
+# Runs a command as a user who owns nothing here.
+as_nobody() {
+    if [ "$(id -u)" = 0 ]; then
+        setpriv --reuid=65534 --regid=65534 --clear-groups --no-new-privs "$@"
+    else
+        "$@"
+    fi
+}
+
+# Runs a command on a path without the toolchain.
+without_rt() {
+    local folder path='' IFS=:
+    for folder in $PATH; do
+        [ -x "$folder/rt" ] || path=$path${path:+:}$folder
+    done
+    PATH=$path "$@"
+}
+
+# Runs a command in which the reads of the program of that name fail after so many bytes.
+failing() { # BYTES NAME COMMAND...
+    FAIL_READ_AFTER=$1 FAIL_READ_IN=$2 LD_PRELOAD=${failing_read:?} "${@:3}"
+}
+
+# Runs a command whose output nobody reads any more.
+unread() {
+    local reader
+    exec 5> >(exec true)
+    reader=$!
+    wait "$reader"
+    "$@" >&5
+}
+
+# Files that the transcripts name, in scratch/.
+make_scratch() {
+    rm -rf scratch
+    mkdir scratch
+    head -c 33800 /dev/zero >scratch/long.pack
+    head -c 24584 /dev/zero >scratch/long.cert
+    cp examples/division.pack scratch/secret
+    chmod 000 scratch/secret
+    ln -s ../loader scratch/link
+    ln -s link 'scratch/link of a link'
+}
+
+export -f as_nobody without_rt failing unread
