@@ -1,4 +1,5 @@
 // Files and standard input, read so that a failure is told from the end.
+ghost use Prim.Native.Nat.{_≤_};
 ghost use Rattle.io.specs.Counts.{Counts};
 ghost use Rattle.files.specs.Read.{bytes-read};
 use libc::STDERR_FILENO;
@@ -11,6 +12,22 @@ const NAME_SHOWN: isize = 64;
 pub enum FileRead {
     Bytes(usize),
     Failed,
+}
+
+// How many of buf's bytes were read. It takes buf so that `&buf[..n]` needs no proof of its own.
+pub fn held(r: FileRead, buf: &[u8]) -> usize
+    ensures { λ n. ⌜ Counts n (now (buf .entry)) ⌝ }
+{
+    match r {
+        FileRead::Bytes(n) => least(n, buf.len()),
+        FileRead::Failed => 0,
+    }
+}
+
+fn least(a: usize, b: usize) -> usize
+    ensures { λ r. ⌜ r ≤ b ⌝ }
+{
+    if a < b { a } else { b }
 }
 
 // One read to the start of part; 0 bytes are the end of the input.

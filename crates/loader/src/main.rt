@@ -57,12 +57,16 @@ fn usage() -> Ended {
 fn check(pack_at: usize, certificate_at: usize) -> Ended {
     let mut pack = [0u8; PACK_ROOM];
     let mut certificate = [0u8; CERTIFICATE_ROOM];
-    let FileRead::Bytes(n) = files::read_argument(pack_at, &mut pack) else {
+    let pack_read = files::read_argument(pack_at, &mut pack);
+    if let FileRead::Failed = pack_read {
         return Ended::Unjudged;
-    };
-    let FileRead::Bytes(m) = files::read_argument(certificate_at, &mut certificate) else {
+    }
+    let certificate_read = files::read_argument(certificate_at, &mut certificate);
+    if let FileRead::Failed = certificate_read {
         return Ended::Unjudged;
-    };
+    }
+    let n = files::held(pack_read, &pack);
+    let m = files::held(certificate_read, &certificate);
     match teldyzhom::check_certificate(&pack[..n], &certificate[..m]) {
         Checked::Accepted => after(io::write_all(STDOUT_FILENO, b"accepted\n"), Ended::Good),
         Checked::Refused(x) => refused(x),
@@ -72,9 +76,11 @@ fn check(pack_at: usize, certificate_at: usize) -> Ended {
 fn pairs_of(pack_at: usize) -> Ended {
     let mut pack = [0u8; PACK_ROOM];
     let mut list = [0u8; LIST_ROOM];
-    let FileRead::Bytes(n) = files::read_argument(pack_at, &mut pack) else {
+    let pack_read = files::read_argument(pack_at, &mut pack);
+    if let FileRead::Failed = pack_read {
         return Ended::Unjudged;
-    };
+    }
+    let n = files::held(pack_read, &pack);
     match teldyzhom::list_pairs(&pack[..n], &mut list) {
         Answer::Refused(x) => refused(x),
         Answer::Passed(k) => after(printing::pairs(&list, k), Ended::Good),
@@ -83,9 +89,11 @@ fn pairs_of(pack_at: usize) -> Ended {
 
 fn ask(pack_at: usize, rule: u32, place: u32, other_rule: u32, other_place: u32) -> Ended {
     let mut pack = [0u8; PACK_ROOM];
-    let FileRead::Bytes(n) = files::read_argument(pack_at, &mut pack) else {
+    let pack_read = files::read_argument(pack_at, &mut pack);
+    if let FileRead::Failed = pack_read {
         return Ended::Unjudged;
-    };
+    }
+    let n = files::held(pack_read, &pack);
     match teldyzhom::arc_runs(&pack[..n], rule, place, other_rule, other_place) {
         ArcAnswer::Yes => after(io::write_all(STDOUT_FILENO, b"yes\n"), Ended::Good),
         ArcAnswer::No => after(io::write_all(STDOUT_FILENO, b"no\n"), Ended::Against),
