@@ -9,6 +9,16 @@ as_nobody() {
     fi
 }
 
+# Runs a command as one who cannot write to this folder; its owner could otherwise.
+unwritable() {
+    local status
+    chmod a-w . target
+    as_nobody "$@"
+    status=$?
+    chmod u+w . target
+    return "$status"
+}
+
 # Runs a command on a path without the toolchain.
 without_rt() {
     local folder path='' IFS=:
@@ -29,7 +39,8 @@ unread() {
     exec 5> >(exec true)
     reader=$!
     wait "$reader"
-    "$@" >&5
+    # Whoever runs the gate may ignore the signal.
+    env --default-signal=PIPE "$@" >&5
 }
 
 # Files that the transcripts name, in scratch/.
@@ -44,4 +55,4 @@ make_scratch() {
     ln -s link 'scratch/link of a link'
 }
 
-export -f as_nobody without_rt failing unread
+export -f as_nobody unwritable without_rt failing unread
