@@ -54,6 +54,21 @@ fn usage() -> Ended {
     Ended::Unjudged
 }
 
+fn tell_checked(answer: Checked) -> Ended {
+    match answer {
+        Checked::Accepted => after(io::write_all(STDOUT_FILENO, b"accepted\n"), Ended::Good),
+        Checked::Refused(x) => refused(x),
+    }
+}
+
+fn tell_arc(answer: ArcAnswer) -> Ended {
+    match answer {
+        ArcAnswer::Yes => after(io::write_all(STDOUT_FILENO, b"yes\n"), Ended::Good),
+        ArcAnswer::No => after(io::write_all(STDOUT_FILENO, b"no\n"), Ended::Against),
+        ArcAnswer::Refused(x) => refused(x),
+    }
+}
+
 fn check(pack_at: usize, certificate_at: usize) -> Ended {
     let mut pack = [0u8; PACK_ROOM];
     let mut certificate = [0u8; CERTIFICATE_ROOM];
@@ -67,10 +82,7 @@ fn check(pack_at: usize, certificate_at: usize) -> Ended {
     }
     let n = files::held(pack_read, &pack);
     let m = files::held(certificate_read, &certificate);
-    match teldyzhom::check_certificate(&pack[..n], &certificate[..m]) {
-        Checked::Accepted => after(io::write_all(STDOUT_FILENO, b"accepted\n"), Ended::Good),
-        Checked::Refused(x) => refused(x),
-    }
+    tell_checked(teldyzhom::check_certificate(&pack[..n], &certificate[..m]))
 }
 
 fn pairs_of(pack_at: usize) -> Ended {
@@ -94,11 +106,7 @@ fn ask(pack_at: usize, rule: u32, place: u32, other_rule: u32, other_place: u32)
         return Ended::Unjudged;
     }
     let n = files::held(pack_read, &pack);
-    match teldyzhom::arc_runs(&pack[..n], rule, place, other_rule, other_place) {
-        ArcAnswer::Yes => after(io::write_all(STDOUT_FILENO, b"yes\n"), Ended::Good),
-        ArcAnswer::No => after(io::write_all(STDOUT_FILENO, b"no\n"), Ended::Against),
-        ArcAnswer::Refused(x) => refused(x),
-    }
+    tell_arc(teldyzhom::arc_runs(&pack[..n], rule, place, other_rule, other_place))
 }
 
 fn arc(at: usize) -> Ended
