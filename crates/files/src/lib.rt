@@ -1,5 +1,7 @@
 // Files and standard input, read so that a failure is told from the end.
-ghost use Prim.Native.Nat.{_≤_};
+ghost use mathlib.Core.Path.{_≡_};
+ghost use Prim.Native.Nat.{_≤_, min};
+ghost use lib.ListN.{length};
 ghost use Rattle.io.specs.Counts.{Counts};
 ghost use Rattle.files.specs.Read.{bytes-read};
 use libc::STDERR_FILENO;
@@ -16,7 +18,8 @@ pub enum FileRead {
 
 // How many of buf's bytes were read. It takes buf so that `&buf[..n]` needs no proof of its own.
 pub fn held(r: FileRead, buf: &[u8]) -> usize
-    ensures { λ n. ⌜ Counts n (now (buf .entry)) ⌝ }
+    ensures says { λ n. ⌜ n ≡ min (bytes-read r) (length (now (buf .entry))) ⌝ }
+    ensures fits { λ n. ⌜ Counts n (now (buf .entry)) ⌝ }
 {
     match r {
         FileRead::Bytes(n) => least(n, buf.len()),
@@ -25,6 +28,7 @@ pub fn held(r: FileRead, buf: &[u8]) -> usize
 }
 
 fn least(a: usize, b: usize) -> usize
+    ensures { λ r. ⌜ r ≡ min a b ⌝ }
     ensures { λ r. ⌜ r ≤ b ⌝ }
 {
     if a < b { a } else { b }
