@@ -2,61 +2,32 @@
 use libc::STDERR_FILENO;
 use records::Refusal;
 
+fn say(words: &[u8]) -> bool {
+    io::write_all(STDERR_FILENO, words)
+}
+
 // What a refusal means, in a line.
 pub fn tell(x: Refusal) -> bool {
     match x {
-        Refusal::CutFile => io::write_all(
-            STDERR_FILENO,
-            b"cut file: a length is over its limit or no multiple of 8\n",
-        ),
-        Refusal::StrayRecord => io::write_all(
-            STDERR_FILENO,
+        Refusal::CutFile => say(b"cut file: a length is over its limit or no multiple of 8\n"),
+        Refusal::StrayRecord => say(
             b"stray record: the kind or the file's end stands against the table, byte 1 or an unnamed field is not zero, S, R or C is out of sequence, P, W or M does not rise, or a component without a weighting has more than one pair\n",
         ),
-        Refusal::OutOfRange => io::write_all(
-            STDERR_FILENO,
+        Refusal::OutOfRange => say(
             b"out of range: a count (a 65th symbol or rule too), arity, symbol, variable, weighting count or weight place is outside its range, or M names a constructor\n",
         ),
-        Refusal::BrokenSide => io::write_all(
-            STDERR_FILENO,
-            b"broken side: a side's nodes are not exactly one term\n",
-        ),
-        Refusal::BareLeft => io::write_all(
-            STDERR_FILENO,
-            b"bare left: a left side is a variable\n",
-        ),
-        Refusal::LooseVariable => io::write_all(
-            STDERR_FILENO,
+        Refusal::BrokenSide => say(b"broken side: a side's nodes are not exactly one term\n"),
+        Refusal::BareLeft => say(b"bare left: a left side is a variable\n"),
+        Refusal::LooseVariable => say(
             b"loose variable: a variable of the right is not on the left\n",
         ),
-        Refusal::NoSuchPair => io::write_all(
-            STDERR_FILENO,
-            b"no such pair: a P names no pair of the pack\n",
-        ),
-        Refusal::PairCount => io::write_all(
-            STDERR_FILENO,
-            b"pair count: a pair stands not at all or twice\n",
-        ),
-        Refusal::BackArc => io::write_all(
-            STDERR_FILENO,
-            b"back arc: an arc leads to a lower component\n",
-        ),
-        Refusal::SelfArc => io::write_all(
-            STDERR_FILENO,
-            b"self arc: a pair without weights has an arc to itself\n",
-        ),
-        Refusal::Heavy => io::write_all(STDERR_FILENO, b"heavy: a form passes the limit\n"),
-        Refusal::RuleRises => io::write_all(
-            STDERR_FILENO,
-            b"rule rises: a rule's left is not at least its right\n",
-        ),
-        Refusal::PairStays => io::write_all(
-            STDERR_FILENO,
-            b"pair stays: a pair's left is not greater than its right\n",
-        ),
-        Refusal::ShortList => io::write_all(
-            STDERR_FILENO,
-            b"short list: the lent list cannot hold all pairs\n",
-        ),
+        Refusal::NoSuchPair => say(b"no such pair: a P names no pair of the pack\n"),
+        Refusal::PairCount => say(b"pair count: a pair stands not at all or twice\n"),
+        Refusal::BackArc => say(b"back arc: an arc leads to a lower component\n"),
+        Refusal::SelfArc => say(b"self arc: a pair without weights has an arc to itself\n"),
+        Refusal::Heavy => say(b"heavy: a form passes the limit\n"),
+        Refusal::RuleRises => say(b"rule rises: a rule's left is not at least its right\n"),
+        Refusal::PairStays => say(b"pair stays: a pair's left is not greater than its right\n"),
+        Refusal::ShortList => say(b"short list: the lent list cannot hold all pairs\n"),
     }
 }
