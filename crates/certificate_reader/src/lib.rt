@@ -70,7 +70,7 @@ pub fn read_certificate(
             }
         }
     }
-    if records::order::may_end(s.last, s.due) {
+    if records::order::may_follow(s.last, records::order::CERTIFICATE_END, s.due, s.weighted) {
         return Answer::Passed(s.number);
     }
     Answer::Refused(Refusal::StrayRecord)

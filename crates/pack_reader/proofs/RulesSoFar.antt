@@ -16,7 +16,7 @@ use Rattle.records.specs.declared.Wanted.the-variants.{Found, Stray}
 use Rattle.records.specs.Answers.{outcome-of}
 use Rattle.records.specs.Outcomes.{Outcome, refused, passed, after}
 use Rattle.records.specs.Records.{record-at, all-records}
-use Rattle.records.specs.Order.{S-symbol, R-rule, index, may-follow}
+use Rattle.records.specs.Order.{S-symbol, R-rule, index, may-follow, pack-edge}
 use Rattle.records.specs.Wanted.{wanted-at}
 use Rattle.records.proofs.Bytes.{drop-records, length-of-records}
 use Rattle.records.proofs.Table.{kind-of}
@@ -25,7 +25,7 @@ use Rattle.terms.specs.Kept.{Kept}
 use Rattle.packs.specs.Reading.{between-rules, pack-end, pack-from}
 use Rattle.pack_reader.specs.Stored.{Rule-at, node-steps, Rule-read, rule-header, row-after}
 use Rattle.packs.proofs.OneRecord.{stray-record}
-use Rattle.packs.proofs.Places.{Between, at-start, after-symbol, after-node, between-end, between-symbol, between-kind}
+use Rattle.packs.proofs.Places.{Between, at-start, after-symbol, after-node, between-symbol, between-kind}
 use Rattle.pack_reader.proofs.Wanted.{found-at, stray-at}
 use Rattle.pack_reader.proofs.RulesPhase.{header-told, header-refused, rule-phase}
 use Rattle.pack_reader.proofs.KeptNodes.{kept-left, kept-right, kept-before}
@@ -117,12 +117,19 @@ module _ (pack arities : List ℕ) (symbols : ℕ) (fits : symbols ≤ length ar
       }
 
   module _ (starts nodes : List ℕ) (last at base i : ℕ) (s : So-far pack arities symbols starts nodes last at base i) where
-    -- no record is left
-    pub ends : length pack / 8 ≤ at → from-rules pack arities symbols ≡ passed (record { arities = take symbols arities; rules = s .rules })
-    unfolding pack-from pack-end
-    ends h =
-        sym (s .goes-on)
-        ∙ rw (drop-of-length-le (all-records pack) {i = at} (omega (arith, length-of-records pack)), between-end (s .place))
+    -- no record is left: the table says whether the pack may end here
+    module _ (h : length pack / 8 ≤ at) where
+      none-left : from-rules pack arities symbols ≡ pack-end (between-rules last (take symbols arities) (s .rules))
+      unfolding pack-from
+      none-left = sym (s .goes-on) ∙ rw (drop-of-length-le (all-records pack) {i = at} (omega (arith, length-of-records pack)))
+
+      pub ends : may-follow last pack-edge 0 false ≡ true → from-rules pack arities symbols ≡ passed (record { arities = take symbols arities; rules = s .rules })
+      unfolding pack-end
+      ends e = none-left ∙ rw e
+
+      pub ends-early : may-follow last pack-edge 0 false ≡ false → from-rules pack arities symbols ≡ refused 2
+      unfolding pack-end
+      ends-early e = none-left ∙ rw e
 
     -- ONE TURN
     module _ (h : at < length pack / 8) where

@@ -53,6 +53,7 @@ pub fn read_nodes(
     let mut last = 2;
     let mut j = 0;
     while j < count {
+        // After R, F and V the table lets no pack end while nodes are due.
         if n <= from + j {
             return Answer::Refused(Refusal::StrayRecord);
         }

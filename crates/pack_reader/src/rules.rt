@@ -126,7 +126,11 @@ pub fn read_rules(
             }
         }
     }
-    Answer::Passed(i)
+    // A pack without rules ends here too.
+    if records::order::may_follow(last, records::order::PACK_END, 0, false) {
+        return Answer::Passed(i);
+    }
+    Answer::Refused(Refusal::StrayRecord)
 }
 
 fn clear(marks: &mut [u8])

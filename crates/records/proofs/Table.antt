@@ -1,7 +1,7 @@
 -- The kinds of records one by one, and what the table of their order says whatever the file: what may follow has an entry
 -- there, and the two files' kinds never mix.
 use mathlib.Core.Path.{_≡_, refl, sym, subst}
-use mathlib.Core.Bool.{Bool, true, false, cond, false≢true}
+use mathlib.Core.Bool.{Bool, true, false, false≢true}
 use mathlib.Core.Logic.{_⊎_, ⊎-elim}
 use Prim.Native.Nat.{ℕ, zero, suc, _+_, _-_, _*_, _/_, _%_, _^_, _≤_, _<_}
 use native.Mathlib.Nat.{le-of-suc-le-suc}
@@ -9,8 +9,9 @@ use native.Mathlib.Omega.{arith}
 use lib.Dec.{ltb, eqb}
 use lib.ListN.{getD}
 use borrow.Author.Tests.{eqb-true, ne-eqb, lt-ltb, le-leb}
-use Rattle.records.specs.Order.{S-symbol, R-rule, F-application, V-variable, C-component, P-pair, W-weight, M-marked, certificate-edge, index, order, lets, may-follow}
-use Rattle.records.specs.Rows.{bit, Row}
+use Rattle.records.specs.Order.{S-symbol, R-rule, F-application, V-variable, C-component, P-pair, W-weight, M-marked, index, order, lets, may-follow}
+use Rattle.records.specs.declared.order.Row.{Row}
+use Rattle.records.specs.Rows.{column-at, bit, Says, Row-says}
 
 -- a byte is one of the eight letters or none of them
 pub data Kind : ℕ → Type 0 where
@@ -96,7 +97,7 @@ pub other-nowhere : (before : ℕ) → before ≤ 10 → entry before 10 ≡ 0
 unfolding order sum-below sum-of
 other-nowhere before h = zero-in 11 1 (λ i j. entry i 10) refl before 0 (omega arith) (omega arith)
 
--- THE CODE'S TABLE: a row is a number, a kind's entry its bit
+-- THE CODE'S TABLE: three numbers to a row, a bit to a column
 
 -- as above, of numbers that are the same at each place
 unfoldable pub distance : ℕ → ℕ → ℕ
@@ -106,27 +107,28 @@ same-below : (n : ℕ) (f g : ℕ → ℕ) → sum-below n (λ i. distance (f i)
 unfolding distance
 same-below n f g h i b = let z : (f i - g i) + (g i - f i) ≡ 0 = zero-below n (λ i. distance (f i) (g i)) h i b in omega arith
 
--- how many bits of a row, each kind's at its place, say something else than the table does
-unfoldable pub misses : (before due : ℕ) → (weighted : Bool) → (row : ℕ) → (place : ℕ → ℕ) → ℕ
-misses before due weighted row place =
-    sum-below 21 (λ k. distance (row / 2 ^ place k % 2) (bit (may-follow before (index (67 + k)) due weighted)))
+-- how many bits of a number say something else than the table does
+unfoldable pub misses : (before due : ℕ) → (weighted : Bool) → (columns : ℕ) → ℕ
+misses before due weighted columns =
+    sum-below 29 (λ k. distance (columns / 2 ^ k % 2) (bit (may-follow before (column-at k) due weighted)))
 
-hits : (before due : ℕ) (weighted : Bool) (row : ℕ) (place : ℕ → ℕ) → misses before due weighted row place ≡ 0
-    → (k : ℕ) → k < 21 → row / 2 ^ place k % 2 ≡ bit (may-follow before (index (67 + k)) due weighted)
+hits : (before due : ℕ) (weighted : Bool) (columns : ℕ) → misses before due weighted columns ≡ 0 → Says before due weighted columns
 unfolding misses
-hits before due weighted row place h =
-    same-below 21 (λ k. row / 2 ^ place k % 2) (λ k. bit (may-follow before (index (67 + k)) due weighted)) h
+hits before due weighted columns h =
+    same-below 29 (λ k. columns / 2 ^ k % 2) (λ k. bit (may-follow before (column-at k) due weighted)) h
 
-pub row-at : {b : ℕ} (before : ℕ) {row : ℕ} → b ≡ before
-    → misses before 1 false row (λ k. k) ≡ 0
-    → misses before 0 false row (λ k. k + 21) ≡ 0
-    → misses before 0 true row (λ k. k + 21 + 21) ≡ 0
-    → Row b row
-row-at before {row} e l d w =
+-- of a row's three numbers
+unfoldable pub row-misses : (before lasts done weighted : ℕ) → ℕ
+row-misses before l d w = misses before 1 false l + (misses before 0 false d + misses before 0 true w)
+
+pub row-says : {b : ℕ} (before : ℕ) {row : Row} {l d w : ℕ} → b ≡ before → (row .lasts ≡ l) × (row .done ≡ d) × (row .weighted ≡ w)
+    → row-misses before l d w ≡ 0 → Row-says b row
+unfolding row-misses
+row-says before {row} {l} {d} {w} e (el, ed, ew) none =
     rw e (record {
-      lasts = hits before 1 false row (λ k. k) l;
-      done = hits before 0 false row (λ k. k + 21) d;
-      weighted = hits before 0 true row (λ k. k + 21 + 21) w;
+      lasts = rw el (hits before 1 false l (omega arith));
+      done = rw ed (hits before 0 false d (omega arith));
+      weighted = rw ew (hits before 0 true w (omega arith));
     })
 
 -- the last row is the one that is left when ten are not it; five at a time, since `omega` splits each
@@ -155,16 +157,8 @@ while-due-same before next due weighted h = same (entry before next)
     same (suc (suc (suc zero))) = ne-eqb due 0 (λ e. omega arith)
     same (suc (suc (suc (suc e)))) = rw (ne-eqb due 0 (λ e. omega arith))
 
--- what the table says of the end of a certificate
-unfoldable pub ends : ℕ → ℕ
-ends before = cond (eqb before 5) 1 (cond (eqb before 7) 3 (cond (eqb before 8) 1 (cond (eqb before 9) 1 0)))
-
-pub end-entry : (before : ℕ) → before < 11 → entry before certificate-edge ≡ ends before
-unfolding order sum-below distance ends
-end-entry before h = same-below 11 (λ i. entry i certificate-edge) ends refl before h
-
--- no letter is below C or above W
-pub no-kind : (k : ℕ) → _⊎_ (k < 67) (88 ≤ k) → index k ≡ 10
+-- a byte that is no letter is no kind
+pub no-kind : (k : ℕ) → _⊎_ (k < 65) (91 ≤ k) → index k ≡ 10
 unfolding index
 no-kind k h =
     simp (

@@ -1,109 +1,156 @@
-// Which kind may stand after which.
+// Which kind may stand after which: document 01's table, asked by both readers.
 ghost use mathlib.Core.Path.{_≡_};
-ghost use mathlib.Core.Bool.{Bool, true, false};
-ghost use Prim.Native.Nat.{_<_};
-ghost use Rattle.records.specs.Order.{certificate-edge, index, may-follow};
-ghost use Rattle.records.specs.Rows.{Row};
+ghost use Prim.Native.Nat.{_/_, _%_, _^_, _<_};
+ghost use lib.Dec.{eqb};
+ghost use Rattle.records.specs.Order.{index, may-follow};
+ghost use Rattle.records.specs.Rows.{column-at, Row-says};
 
-// A row for what stands before, and in it a bit for each kind that may stand there, from C on: the lowest 21 while the count
-// lasts, the next 21 after it, the next 21 after it in a component with a weighting. A row is chosen by a `match`, since a
-// constant array is laid out anew at each use.
-const C: u64 = 0x1;
+// The columns: the letters from A to Z, the ends of a pack and of a certificate, and one for every other byte.
+const LETTERS: usize = 26;
 
-const F: u64 = 0x8;
+pub const PACK_END: usize = LETTERS;
 
-const M: u64 = 0x400;
+pub const CERTIFICATE_END: usize = LETTERS + 1;
 
-const P: u64 = 0x2000;
+const OTHER: usize = LETTERS + 2;
 
-const R: u64 = 0x8000;
+// A column's bit in a row.
+const C: u32 = 0x4;
 
-const S: u64 = 0x10000;
+const F: u32 = 0x20;
 
-const V: u64 = 0x80000;
+const M: u32 = 0x1000;
 
-const W: u64 = 0x100000;
+const P: u32 = 0x8000;
 
-// After the count, and after it with a weighting.
-const DONE: u64 = 0x200000;
+const R: u32 = 0x20000;
 
-const WEIGHTED: u64 = 0x40000000000;
+const S: u32 = 0x40000;
 
-const EVER: u64 = 1 + DONE + WEIGHTED;
+const V: u32 = 0x200000;
 
-const AFTER_PACK_START: u64 = EVER * S;
+const W: u32 = 0x400000;
 
-const AFTER_S: u64 = EVER * (R + S);
+const END_OF_PACK: u32 = 0x4000000;
 
-const AFTER_R: u64 = EVER * (F + V);
+const END_OF_CERTIFICATE: u32 = 0x8000000;
 
-const AFTER_NODE: u64 = F + V + DONE * R + WEIGHTED * R;
+// What may stand, by what stands before.
+const AFTER_PACK_START: u32 = S + END_OF_PACK;
 
-const AFTER_CERTIFICATE_START: u64 = EVER * C;
+const AFTER_S: u32 = S + R + END_OF_PACK;
 
-const AFTER_C: u64 = EVER * P;
+const AFTER_R: u32 = F + V;
 
-const AFTER_P: u64 = P + DONE * C + WEIGHTED * (C + M + W);
+const INSIDE_RULE: u32 = F + V;
 
-const AFTER_W: u64 = EVER * (C + M + W);
+const AFTER_RULE: u32 = R + END_OF_PACK;
 
-const AFTER_M: u64 = EVER * (C + M);
+const AFTER_CERTIFICATE_START: u32 = C + END_OF_CERTIFICATE;
 
-fn row(before: usize) -> u64
-    requires { ⌜ before < 11 ⌝ }
-    ensures { λ r. ⌜ Row before r ⌝ }
+const AFTER_C: u32 = P;
+
+const AMONG_PAIRS: u32 = P;
+
+const AFTER_PAIRS: u32 = C + END_OF_CERTIFICATE;
+
+const AFTER_WEIGHTED_PAIRS: u32 = C + END_OF_CERTIFICATE + W + M;
+
+const AFTER_W: u32 = W + M + C + END_OF_CERTIFICATE;
+
+const AFTER_M: u32 = M + C + END_OF_CERTIFICATE;
+
+// A row: the bits while the count lasts, after it, and after it in a component with a weighting.
+struct Row {
+    lasts: u32,
+    done: u32,
+    weighted: u32,
+}
+
+// A row whose columns hang on no count.
+fn ever(x: u32) -> Row
+    ensures { λ r. ⌜ (r .lasts ≡ x) × (r .done ≡ x) × (r .weighted ≡ x) ⌝ }
 {
-    match before {
-        0 => AFTER_PACK_START,
-        1 => AFTER_S,
-        2 => AFTER_R,
-        3 => AFTER_NODE,
-        4 => AFTER_NODE,
-        5 => AFTER_CERTIFICATE_START,
-        6 => AFTER_C,
-        7 => AFTER_P,
-        8 => AFTER_W,
-        9 => AFTER_M,
-        _ => 0,
+    Row {
+        lasts: x,
+        done: x,
+        weighted: x,
     }
 }
 
-// Whether a record of this kind may stand, by the row of what stands before, the count still due and whether the component has
-// a weighting.
+// A row whose columns hang on the count alone.
+fn counted(lasts: u32, done: u32) -> Row
+    ensures { λ r. ⌜ (r .lasts ≡ lasts) × (r .done ≡ done) × (r .weighted ≡ done) ⌝ }
+{
+    Row {
+        lasts,
+        done,
+        weighted: done,
+    }
+}
+
+// The row of what stands before. A `match` is kept as a table in memory; a constant array is laid out anew at each use.
+fn row_of(before: usize) -> Row
+    requires { ⌜ before < 11 ⌝ }
+    ensures { λ r. ⌜ Row-says before r ⌝ }
+{
+    match before {
+        0 => ever(AFTER_PACK_START),
+        1 => ever(AFTER_S),
+        2 => ever(AFTER_R),
+        3 => counted(INSIDE_RULE, AFTER_RULE),
+        4 => counted(INSIDE_RULE, AFTER_RULE),
+        5 => ever(AFTER_CERTIFICATE_START),
+        6 => ever(AFTER_C),
+        7 => Row {
+            lasts: AMONG_PAIRS,
+            done: AFTER_PAIRS,
+            weighted: AFTER_WEIGHTED_PAIRS,
+        },
+        8 => ever(AFTER_W),
+        9 => ever(AFTER_M),
+        _ => ever(0),
+    }
+}
+
+// The column of a record's kind.
+fn column(kind: u8) -> usize
+    ensures { λ r. ⌜ (r < 29) × (column-at r ≡ index kind) ⌝ }
+{
+    match kind {
+        b'A'..=b'Z' => (kind - b'A') as usize,
+        _ => OTHER,
+    }
+}
+
+// Whether a column's bit is set.
+fn has(columns: u32, next: usize) -> bool
+    requires { ⌜ next < 29 ⌝ }
+    ensures { λ r. ⌜ r ≡ eqb (columns / 2 ^ next % 2) 1 ⌝ }
+{
+    (columns >> next) % 2 == 1
+}
+
+// Whether column `next` may come, by the row of what stands before, the count still due and whether the component has a
+// weighting.
+pub fn may_follow(before: usize, next: usize, due: usize, weighted: bool) -> bool
+    requires { ⌜ (before < 11) × (next < 29) ⌝ }
+    ensures { λ r. ⌜ r ≡ may-follow before (column-at next) due weighted ⌝ }
+{
+    let r = row_of(before);
+    if due != 0 {
+        return has(r.lasts, next);
+    }
+    if weighted {
+        return has(r.weighted, next);
+    }
+    has(r.done, next)
+}
+
+// Whether a record of this kind may stand.
 pub fn stands(before: usize, kind: u8, due: usize, weighted: bool) -> bool
     requires { ⌜ before < 11 ⌝ }
     ensures { λ r. ⌜ r ≡ may-follow before (index kind) due weighted ⌝ }
 {
-    let k = kind as usize;
-    if k < 67 {
-        return false;
-    }
-    if 88 <= k {
-        return false;
-    }
-    let mut place = k - 67;
-    if due == 0 {
-        place = place + 21;
-        if weighted {
-            place = place + 21;
-        }
-    }
-    (row(before) >> place) % 2 == 1
-}
-
-// Whether the certificate may end here.
-pub fn may_end(before: usize, due: usize) -> bool
-    requires { ⌜ before < 11 ⌝ }
-    ensures { λ r. ⌜ ((weighted : Bool) → r ≡ may-follow before certificate-edge due weighted) ⌝ }
-{
-    if before == 5 {
-        return true;
-    }
-    if before == 7 {
-        return due == 0;
-    }
-    if before == 8 {
-        return true;
-    }
-    before == 9
+    may_follow(before, column(kind), due, weighted)
 }

@@ -12,6 +12,7 @@ use Rattle.records.specs.declared.Record.{Record}
 use Rattle.records.specs.declared.Wanted.the-variants.{Found}
 use Rattle.records.specs.Records.{all-records}
 use Rattle.records.specs.Order.{index, may-follow}
+use Rattle.records.specs.Rows.{column-at}
 use Rattle.records.specs.Wanted.{wanted-at}
 use Rattle.records.proofs.Bytes.{drop-records}
 use Rattle.pack_reader.specs.Stored.{Stored}
@@ -124,18 +125,20 @@ again c =
     )
 
 read : tie.Need-returns-3 Inv-loop μ-loop
+unfolding column-at
 read c =
     let l = c .before .before .before .loop in
     let pre = c .before .before .before .before .before .before .before .before .before .pre in
     λ p stored.
-    ends-read p _ (pre .0) (pre .1) (l .i) (l .s) (l .inv .3 p stored) (c .before .before .loop-test .left) (sym (c .before .may-end .ensures (l .s .weighted)) ∙ c .if1 .taken)
+    ends-read p _ (pre .0) (pre .1) (l .i) (l .s) (l .inv .3 p stored) (c .before .before .loop-test .left) (sym (c .before .may-follow .ensures) ∙ c .if1 .taken)
 
 early : tie.Need-returns-4 Inv-loop μ-loop
+unfolding column-at
 early c =
     let l = c .before .before .before .loop in
     let pre = c .before .before .before .before .before .before .before .before .before .pre in
     λ p stored.
-    ends-early p _ (pre .0) (pre .1) (l .i) (l .s) (l .inv .3 p stored) (c .before .before .loop-test .left) (sym (c .before .may-end .ensures (l .s .weighted)) ∙ c .if1 .left)
+    ends-early p _ (pre .0) (pre .1) (l .i) (l .s) (l .inv .3 p stored) (c .before .before .loop-test .left) (sym (c .before .may-follow .ensures) ∙ c .if1 .left)
 
 pub read-certificate-spec : {M : Type 1} → statement M
 read-certificate-spec =

@@ -2,7 +2,7 @@
 -- kept, and the records left come, after these rules, to what all come to.
 use mathlib.Core.Path.{_≡_, refl, sym, ap, _∙_}
 use mathlib.Core.Logic.{⊎-elim}
-use mathlib.Core.Bool.{false}
+use mathlib.Core.Bool.{Bool, true, false}
 use mathlib.Core.List.{List}
 use Prim.Native.Nat.{ℕ, zero, suc, _*_, _-_, _/_, _≤_, _<_}
 use native.Mathlib.Omega.{arith}
@@ -15,11 +15,13 @@ use Rattle.records.specs.declared.Answer.the-variants.{Passed}
 use Rattle.records.specs.declared.Wanted.the-variants.{Found, Stray}
 use Rattle.records.specs.Answers.{outcome-of}
 use Rattle.records.specs.Outcomes.{Outcome, refused, passed}
+use Rattle.records.specs.Order.{may-follow}
+use Rattle.records.specs.Rows.{column-at}
 use Rattle.records.specs.Wanted.{wanted-at}
 use Rattle.pack_reader.specs.Stored.{rule-header, row-after, Rules-read}
 use Rattle.packs.proofs.Places.{between-row}
 use Rattle.pack_reader.proofs.RulesPhase.{Header-told, header-told}
-use Rattle.pack_reader.proofs.RulesSoFar.{from-rules, So-far, start, ends, stray, header-refuses, rule-refuses, more}
+use Rattle.pack_reader.proofs.RulesSoFar.{from-rules, So-far, start, ends, ends-early, stray, header-refuses, rule-refuses, more}
 use Rattle.pack_reader.proofs.rules.read_rules.Statement.{statement}
 use Rattle.pack_reader.proofs.rules.read_rules.Tie as tie
 
@@ -34,11 +36,17 @@ refuses : (o : Outcome System) (ar : List ℕ) (x : Answer) (starts nodes : List
 unfolding Rules-read
 refuses o ar x starts nodes n e h = rw h e
 
-passes : (pack arities : List ℕ) (symbols : ℕ) (fits : symbols ≤ length arities) (starts nodes : List ℕ) (last at base i : ℕ)
-    → So-far pack arities symbols starts nodes last at base i → length pack / 8 ≤ at → Rules-read (from-rules pack arities symbols) (take symbols arities) (Passed i) starts nodes
-unfolding Rules-read rule
-passes pack arities symbols fits starts nodes last at base i s h =
-    rw (ends pack arities symbols fits starts nodes last at base i s h) (ap passed (sym (s .many)), refl, λ j k. s .kept j (rw (s .many) at k))
+-- no record is left
+module _ (pack arities : List ℕ) (symbols : ℕ) (fits : symbols ≤ length arities) (starts nodes : List ℕ) (last at base i : ℕ)
+    (s : So-far pack arities symbols starts nodes last at base i) (h : length pack / 8 ≤ at) where
+  passes : {b : Bool} → b ≡ may-follow last (column-at 26) 0 false → b ≡ true → Rules-read (from-rules pack arities symbols) (take symbols arities) (Passed i) starts nodes
+  unfolding Rules-read rule column-at
+  passes e t =
+      rw (ends pack arities symbols fits starts nodes last at base i s h (sym e ∙ t)) (ap passed (sym (s .many)), refl, λ j k. s .kept j (rw (s .many) at k))
+
+  early : {b : Bool} → b ≡ may-follow last (column-at 26) 0 false → b ≡ false → from-rules pack arities symbols ≡ refused 2
+  unfolding column-at
+  early e f = ends-early pack arities symbols fits starts nodes last at base i s h (sym e ∙ f)
 
 -- the row before the first rule
 row-none : (n : ℕ) → n ≡ 0 → row-after n ≡ 0
@@ -160,6 +168,17 @@ again c =
           _ _ (n .read-rule .ensures) _ (ap outcome-of (w .row .given .1)) (omega arith)),
     )
 
+pack-end : tie.Need-returns-4 Inv-loop μ-loop
+pack-end c =
+    let l = c .before .before .before .loop in
+    passes _ _ _ (omega arith) _ _ (l .last) (l .at) (l .base) (l .i) (l .inv .4) (c .before .before .loop-test .left) (c .before .may-follow .ensures) (c .if2 .taken)
+
+early-end : tie.Need-returns-5 Inv-loop μ-loop
+early-end c =
+    let l = c .before .before .before .loop in
+    refuses _ _ _ _ _ _ refl
+    (early _ _ _ (omega arith) _ _ (l .last) (l .at) (l .base) (l .i) (l .inv .4) (c .before .before .loop-test .left) (c .before .may-follow .ensures) (c .if2 .left))
+
 pub read-rules-spec : {M : Type 1} → statement M
 read-rules-spec =
     tie.close
@@ -200,6 +219,10 @@ read-rules-spec =
     (λ c. let t = turn c in omega arith)
     (λ c. let t = turn c in omega arith)
     again
+    (λ c κs. let row = between-row (c .before .loop .inv .4 .place) in omega arith)
     (λ c. omega arith)
     (λ c. omega arith)
-    (λ c. let l = c .before .loop in passes _ _ _ (omega arith) _ _ (l .last) (l .at) (l .base) (l .i) (l .inv .4) (c .loop-test .left)))
+    pack-end
+    (λ c. omega arith)
+    (λ c. omega arith)
+    early-end)
