@@ -1,100 +1,210 @@
 -- The marking of the entries, record by record: what a turn of `entries::mark_all` finds, and what it leaves.
---     Turn         before record i: the number of the component so far, the entries, and that from here on a slot is taken as it is from the start
+--     marked-within, marked-past          the place is there, or lies past all entries
+--     Turn         before record i: the number of the component and the count of the pairs so far, and the entries, which have these pairs
 --     start        before record 0
---     Numbered, Slotted, Made, Marked     what the calls of a turn say of the component's number, the slot, the entry, and the entries after it
---     stops        the slot of record i is taken
---     goes-on      it is not, and the entry is marked: before record i + 1
+--     Numbered, Placed, Made, Marked, Counted     what the calls of a turn say of the component's number, the place, the entry, the entries after it, and the count
+--     goes-on      before record i + 1
 --     ends         no record is left
 use mathlib.Core.Path.{_≡_, refl, sym, ap, _∙_}
-use mathlib.Core.Bool.{Bool, true, false}
-use mathlib.Core.List.{List, [], _∷_}
+use mathlib.Core.Bool.{Bool, true, false, cond}
+use mathlib.Core.List.{List, [], _∷_, _++_, append-nil}
+use mathlib.Core.Logic.{_≢_}
 use Prim.Native.Nat.{ℕ, suc, _+_, _*_, _/_, _-_, _≤_, _<_}
 use native.Mathlib.Omega.{arith}
-use lib.ListN.{length, drop, drop-of-length-le}
+use lib.Dec.{ltb, eqb}
+use lib.ListN.{length, getD, set, drop, length-append, drop-of-length-le, List·getD-append}
+use lib.Seq.{append-snoc, getD-append-seam, getD-set-same, getD-set-other}
+use borrow.Author.Tests.{lt-ltb, le-ltb, ltb-true, ltb-false}
 use Rattle.records.specs.declared.Record.{Record}
 use Rattle.records.specs.Records.{record-at, all-records}
+use Rattle.records.specs.Order.{P-pair}
 use Rattle.records.proofs.Bytes.{length-of-records, drop-records}
-use Rattle.entries.specs.Entries.{slot, numbered, entry, taken, marked, any-taken}
+use Rattle.entries.specs.Entries.{none, numbered, entry, entries-of, marked, Keeps}
 use Rattle.entries.specs.declared.Entry.{Entry}
 
-taken-here : (es : List Entry) (n : ℕ) (r : Record) (rs : List Record) → taken es (slot r) ≡ true → any-taken es n (r ∷ rs) ≡ true
-unfolding any-taken
-taken-here es n r rs e = rw e refl
+module _ (es : List Entry) (i : ℕ) (e : Entry) where
+  pub marked-within : i < length es → set es i e ≡ marked es i e
+  unfolding marked
+  marked-within within = rw (lt-ltb i (length es) within)
 
-not-here : (es : List Entry) (n : ℕ) (r : Record) (rs : List Record) → taken es (slot r) ≡ false
-    → any-taken es n (r ∷ rs) ≡ any-taken (marked es (slot r) (entry r (numbered n r))) (numbered n r) rs
-unfolding any-taken
-not-here es n r rs e = rw e refl
+  pub marked-past : length es ≤ i → es ≡ marked es i e
+  unfolding marked
+  marked-past past = rw (le-ltb i (length es) past)
 
-none-taken : (es : List Entry) (n : ℕ) → any-taken es n [] ≡ false
-unfolding any-taken
-none-taken es n = refl
+  marked-here : i < length es → getD (marked es i e) i none ≡ e
+  marked-here within = ap (λ (xs : List Entry). getD xs i none) (sym (marked-within within)) ∙ getD-set-same es i e none within
 
-module _ (bs : List ℕ) (es : List Entry) where
-  abbrev pub count : ℕ
-  count = length bs / 8
+  marked-elsewhere : (k : ℕ) → k ≢ i → getD (marked es i e) k none ≡ getD es k none
+  marked-elsewhere k other = go (ltb i (length es)) refl
+    where
+      go : (b : Bool) → ltb i (length es) ≡ b → getD (marked es i e) k none ≡ getD es k none
+      go true t = ap (λ (xs : List Entry). getD xs k none) (sym (marked-within (ltb-true i (length es) t))) ∙ getD-set-other es i k e none other
+      go false f = ap (λ (xs : List Entry). getD xs k none) (sym (marked-past (ltb-false i (length es) f)))
+
+-- what the records name, the first one's pair apart
+module _ (n : ℕ) (r : Record) (rs : List Record) where
+  pair-first : eqb (r .kind) P-pair ≡ true → entries-of n (r ∷ rs) ≡ entry r (numbered n r) ∷ entries-of (numbered n r) rs
+  unfolding entries-of
+  pair-first e = rw e refl
+
+  other-first : eqb (r .kind) P-pair ≡ false → entries-of n (r ∷ rs) ≡ entries-of (numbered n r) rs
+  unfolding entries-of
+  other-first e = rw e refl
+
+none-left : (n : ℕ) → entries-of n [] ≡ []
+unfolding entries-of
+none-left n = refl
+
+module _ (bs : List ℕ) where
+  abbrev pub many : ℕ
+  many = length bs / 8
+
+  abbrev all : List Entry
+  all = entries-of 0 (all-records bs)
+
+  -- the pairs of the first i records, and that the entries have them
+  pub record So-far (i number count : ℕ) (entries : List Entry) : Type 0 where
+    pub named : List Entry
+    pub counted : length named ≡ count
+    pub left : all ≡ named ++ entries-of number (drop i (all-records bs))
+    pub are : (k : ℕ) → k < count → k < 2048 → getD entries k none ≡ getD named k none
 
   pub record Turn : Type 0 where
     pub i : ℕ
     pub number : ℕ
+    pub count : ℕ
     pub entries : List Entry
-    pub within : i ≤ count
+    pub within : i ≤ many
     pub few : number ≤ i
-    pub as-long : length entries ≡ length es
-    pub left : any-taken es 0 (all-records bs) ≡ any-taken entries number (drop i (all-records bs))
+    pub fewer : count ≤ i
+    pub long : length entries ≡ 2048
+    pub so-far : So-far i number count entries
 
-  abbrev pub start : Turn
-  start = record { i = 0; number = 0; entries = es; within = omega arith; few = omega arith; as-long = refl; left = refl }
+  abbrev pub start : (es : List Entry) → length es ≡ 2048 → Turn
+  start es long = record {
+    i = 0;
+    number = 0;
+    count = 0;
+    entries = es;
+    within = omega arith;
+    few = omega arith;
+    fewer = omega arith;
+    long = long;
+    so-far = record { named = []; counted = refl; left = refl; are = λ k small _. absurd (omega arith) };
+  }
 
   module _ (t : Turn) where
     abbrev here : Record
     here = record-at bs (8 * t .i)
 
-    module _ (more : t .i < count) where
-      -- m is the number of the component, s the slot, e the entry; was says whether the slot was taken, and zs are the entries after the turn
+    abbrev is-pair : Bool
+    is-pair = eqb (here .kind) P-pair
+
+    module _ (more : t .i < many) where
+      -- m is the number of the component, s the place, e the entry; zs are the entries after the turn, and c is the count
       abbrev pub Numbered : (m : ℕ) → Type 0
       Numbered m = (m ≡ numbered (t .number) here) × (m ≤ t .i + 1)
 
-      abbrev pub Slotted : (s : ℕ) → Type 0
-      Slotted s = s ≡ slot here
+      abbrev pub Placed : (s : ℕ) → Type 0
+      Placed s = s ≡ cond is-pair (t .count) 2048
 
       abbrev pub Made : (m : ℕ) (e : Entry) → Type 0
       Made m e = e ≡ entry here m
 
-      abbrev pub Marked : (s : ℕ) (e : Entry) (was : Bool) (zs : List Entry) → Type 0
-      Marked s e was zs = (was ≡ taken (t .entries) s) × (zs ≡ marked (t .entries) s e)
+      abbrev pub Marked : (s : ℕ) (e : Entry) (zs : List Entry) → Type 0
+      Marked s e zs = zs ≡ marked (t .entries) s e
 
-      pub nearer : count - (t .i + 1) < count - t .i
+      abbrev pub Counted : (c : ℕ) → Type 0
+      Counted c = c ≡ cond is-pair (suc (t .count)) (t .count)
+
+      pub nearer : many - (t .i + 1) < many - t .i
       nearer = omega arith
 
-      first-left : any-taken es 0 (all-records bs) ≡ any-taken (t .entries) (t .number) (here ∷ drop (suc (t .i)) (all-records bs))
-      first-left = t .left ∙ ap (any-taken (t .entries) (t .number)) (drop-records bs (t .i) more)
+      abbrev after : List Record
+      after = drop (t .i + 1) (all-records bs)
 
-      module _ {m s : ℕ} {e : Entry} {was : Bool} {zs : List Entry} (is-m : Numbered m) (is-s : Slotted s) (is-e : Made m e) (said : Marked s e was zs) where
-        was-taken : taken (t .entries) (slot here) ≡ was
-        was-taken = ap (taken (t .entries)) (sym is-s) ∙ sym (said .0)
+      first-left : all ≡ t .so-far .named ++ entries-of (t .number) (here ∷ after)
+      first-left =
+          let one-on : suc (t .i) ≡ t .i + 1 = omega arith in
+          t .so-far .left ∙ ap (λ (rs : List Record). t .so-far .named ++ entries-of (t .number) rs) (drop-records bs (t .i) more ∙ ap (λ (j : ℕ). here ∷ drop j (all-records bs)) one-on)
 
-        pub stops : was ≡ true → true ≡ any-taken es 0 (all-records bs)
-        stops found = sym (first-left ∙ taken-here (t .entries) (t .number) here (drop (suc (t .i)) (all-records bs)) (was-taken ∙ found))
+      -- the record's pair is named after the others, and stands at the next place
+      abbrev m′ : ℕ
+      m′ = numbered (t .number) here
 
-        pub next-left : was ≡ false → any-taken es 0 (all-records bs) ≡ any-taken zs m (drop (t .i + 1) (all-records bs))
-        next-left not-yet =
-            let one-on : t .i + 1 ≡ suc (t .i) = omega arith in
-            first-left ∙ not-here (t .entries) (t .number) here (drop (suc (t .i)) (all-records bs)) (was-taken ∙ not-yet)
-            ∙ rw (said .1, is-s, is-e, is-m .0, one-on) refl
+      abbrev e′ : Entry
+      e′ = entry here m′
 
-        abbrev pub goes-on : length zs ≡ length (t .entries) → was ≡ false → Turn
-        goes-on l not-yet = record {
+      one-named : is-pair ≡ true → So-far (t .i + 1) m′ (suc (t .count)) (marked (t .entries) (t .count) e′)
+      one-named p = record {
+        named = t .so-far .named ++ (e′ ∷ []);
+        counted = length-append (t .so-far .named) (e′ ∷ []) ∙ ap (λ (k : ℕ). k + 1) (t .so-far .counted) ∙ omega arith;
+        left = first-left ∙ ap (λ (xs : List Entry). t .so-far .named ++ xs) (pair-first (t .number) here after p) ∙ sym (append-snoc (t .so-far .named) e′ (entries-of m′ after));
+        are = λ k small there. go k there (ltb k (t .count)) refl small;
+      }
+        where
+          go : (k : ℕ) → k < 2048 → (b : Bool) → ltb k (t .count) ≡ b → k < suc (t .count) → getD (marked (t .entries) (t .count) e′) k none ≡ getD (t .so-far .named ++ (e′ ∷ [])) k none
+          go k there true b small =
+              let before : k < t .count = ltb-true k (t .count) b in
+              let c = t .so-far .counted in
+              marked-elsewhere (t .entries) (t .count) e′ k (λ same. absurd (omega arith)) ∙ t .so-far .are k before there
+              ∙ sym (List·getD-append (t .so-far .named) (e′ ∷ []) none k (omega arith))
+          go k there false b small =
+              let past : t .count ≤ k = ltb-false k (t .count) b in
+              let c = t .so-far .counted in
+              let l = t .long in
+              let at-count : k ≡ t .count = omega arith in
+              let at-end : k ≡ length (t .so-far .named) = omega arith in
+              ap (λ (j : ℕ). getD (marked (t .entries) (t .count) e′) j none) at-count ∙ marked-here (t .entries) (t .count) e′ (omega arith)
+              ∙ sym (ap (λ (j : ℕ). getD (t .so-far .named ++ (e′ ∷ [])) j none) at-end ∙ getD-append-seam (t .so-far .named) e′ [] none)
+
+      none-named : is-pair ≡ false → So-far (t .i + 1) m′ (t .count) (marked (t .entries) 2048 e′)
+      none-named p = record {
+        named = t .so-far .named;
+        counted = t .so-far .counted;
+        left = first-left ∙ ap (λ (xs : List Entry). t .so-far .named ++ xs) (other-first (t .number) here after p);
+        are = λ k small there. marked-elsewhere (t .entries) 2048 e′ k (λ same. absurd (omega arith)) ∙ t .so-far .are k small there;
+      }
+
+      module _ {m s c : ℕ} {e : Entry} {zs : List Entry} (is-m : Numbered m) (is-s : Placed s) (is-e : Made m e) (said : Marked s e zs) (is-c : Counted c) where
+        pub next-so-far : So-far (t .i + 1) m c zs
+        next-so-far = rw (said, is-c, is-s, is-e, is-m .0) (go is-pair refl)
+          where
+            go : (b : Bool) → is-pair ≡ b → So-far (t .i + 1) m′ (cond b (suc (t .count)) (t .count)) (marked (t .entries) (cond b (t .count) 2048) e′)
+            go true p = one-named p
+            go false p = none-named p
+
+        pub next-fewer : c ≤ t .i + 1
+        next-fewer = rw is-c (go is-pair)
+          where
+            go : (b : Bool) → cond b (suc (t .count)) (t .count) ≤ t .i + 1
+            go true = omega arith
+            go false = omega arith
+
+        abbrev pub goes-on : length zs ≡ length (t .entries) → Turn
+        goes-on l = record {
           i = t .i + 1;
           number = m;
+          count = c;
           entries = zs;
           within = omega arith;
           few = is-m .1;
-          as-long = l ∙ t .as-long;
-          left = next-left not-yet;
+          fewer = next-fewer;
+          long = l ∙ t .long;
+          so-far = next-so-far;
         }
 
-    pub ends : count ≤ t .i → false ≡ any-taken es 0 (all-records bs)
-    ends all =
-        let l = length-of-records bs in
-        sym (t .left ∙ ap (any-taken (t .entries) (t .number)) (drop-of-length-le (all-records bs) {i = t .i} (omega arith)) ∙ none-taken (t .entries) (t .number))
+    pub ends : many ≤ t .i → Keeps (all-records bs) (record { count = t .count; entries = t .entries })
+    ends over = record {
+      counted = sym (t .so-far .counted) ∙ ap length (sym all-named);
+      long = t .long;
+      are = λ few k small. t .so-far .are k small (omega arith) ∙ ap (λ (xs : List Entry). getD xs k none) (sym all-named);
+    }
+      where
+        all-named : all ≡ t .so-far .named
+        all-named =
+            let l = length-of-records bs in
+            t .so-far .left
+            ∙ ap (λ (rs : List Record). t .so-far .named ++ entries-of (t .number) rs) (drop-of-length-le (all-records bs) {i = t .i} (omega arith))
+            ∙ ap (λ (xs : List Entry). t .so-far .named ++ xs) (none-left (t .number))
+            ∙ append-nil (t .so-far .named)

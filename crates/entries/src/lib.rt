@@ -1,31 +1,28 @@
-// The pairs that a certificate names, kept as entries of rule, place and component: whether one stands twice.
+// The pairs that a certificate names, kept as entries of rule, place and component.
 use records::Record;
 ghost use mathlib.Core.Path.{_≡_};
-ghost use Prim.Native.Nat.{_%_, _*_, _+_, _≤_};
-ghost use lib.ListN.{length, replicate, drop};
+ghost use mathlib.Core.Bool.{cond};
+ghost use Prim.Native.Nat.{suc, _%_, _*_, _+_, _≤_};
+ghost use lib.Dec.{eqb};
+ghost use lib.ListN.{length};
 ghost use Rattle.records.specs.Records.{all-records, record-at};
-ghost use Rattle.entries.specs.Entries.{none, slot, numbered, entry, taken, marked, any-taken};
+ghost use Rattle.records.specs.Order.{P-pair};
+ghost use Rattle.entries.specs.Entries.{numbered, entry, marked, Keeps};
 
 pub struct Entry {
-    pub rule: u16,
-    pub place: u16,
+    pub rule: u8,
+    pub place: u8,
     pub component: u16,
 }
 
-// The slot of record i.
-fn slot_at(certificate: &[u8], i: usize) -> usize
-    requires { ⌜ 8 * i + 8 ≤ length (now certificate) ⌝ }
-    ensures { λ r. ⌜ r ≡ slot (record-at (now (certificate .entry)) (8 * i)) ⌝ }
-{
-    let r = records::record_at(certificate, 8 * i);
-    if r.kind != b'P' {
-        return 2048;
-    }
-    32 * (r.a as usize) + r.b as usize
+// How many pairs a certificate names, and their entries in its order.
+pub struct Store {
+    pub count: usize,
+    pub entries: [Entry; 2048],
 }
 
 // The number of the component that record i belongs to.
-pub fn numbered_at(certificate: &[u8], i: usize, before: u16) -> u16
+fn numbered_at(certificate: &[u8], i: usize, before: u16) -> u16
     requires { ⌜ (8 * i + 8 ≤ length (now certificate)) × (before ≤ i) × (i ≤ 4096) ⌝ }
     ensures { λ r. ⌜ (r ≡ numbered before (record-at (now (certificate .entry)) (8 * i))) × (r ≤ i + 1) ⌝ }
 {
@@ -36,6 +33,30 @@ pub fn numbered_at(certificate: &[u8], i: usize, before: u16) -> u16
     before
 }
 
+// The place of record i's entry: after the count entries before it, or past all entries if it names no pair.
+fn place_at(certificate: &[u8], i: usize, count: usize) -> usize
+    requires { ⌜ 8 * i + 8 ≤ length (now certificate) ⌝ }
+    ensures { λ r. ⌜ r ≡ cond (eqb (record-at (now (certificate .entry)) (8 * i) .kind) P-pair) count 2048 ⌝ }
+{
+    let r = records::record_at(certificate, 8 * i);
+    if r.kind == b'P' {
+        return count;
+    }
+    2048
+}
+
+// How many pairs there are up to and with record i.
+fn counted_at(certificate: &[u8], i: usize, count: usize) -> usize
+    requires { ⌜ (8 * i + 8 ≤ length (now certificate)) × (count ≤ i) × (i ≤ 4096) ⌝ }
+    ensures { λ r. ⌜ r ≡ cond (eqb (record-at (now (certificate .entry)) (8 * i) .kind) P-pair) (suc count) count ⌝ }
+{
+    let r = records::record_at(certificate, 8 * i);
+    if r.kind == b'P' {
+        return count + 1;
+    }
+    count
+}
+
 // The entry that record i gives.
 fn entry_at(certificate: &[u8], i: usize, component: u16) -> Entry
     requires { ⌜ 8 * i + 8 ≤ length (now certificate) ⌝ }
@@ -43,53 +64,51 @@ fn entry_at(certificate: &[u8], i: usize, component: u16) -> Entry
 {
     let r = records::record_at(certificate, 8 * i);
     Entry {
-        rule: r.a,
-        place: r.b,
+        rule: (r.a % 256) as u8,
+        place: (r.b % 256) as u8,
         component,
     }
 }
 
-// Puts the entry at its slot, if there is one. Says whether the slot had its component before.
-fn mark(entries: &mut [Entry], slot: usize, entry: Entry) -> bool
-    ensures { λ r. ⌜ (r ≡ taken (now (entries .entry)) slot) × (now (entries .exit) ≡ marked (now (entries .entry)) slot entry) ⌝ }
+// Puts the entry at its place, if there is one.
+fn mark(entries: &mut [Entry], at: usize, entry: Entry)
+    ensures { λ _. ⌜ now (entries .exit) ≡ marked (now (entries .entry)) at entry ⌝ }
 {
-    if slot < entries.len() {
-        let before = entries[slot].component;
-        entries[slot] = entry;
-        return 0 < before;
+    if at < entries.len() {
+        entries[at] = entry;
     }
-    false
 }
 
-// Marks the entries record by record, until a slot is taken again.
-fn mark_all(certificate: &[u8], entries: &mut [Entry]) -> bool
-    requires { ⌜ (length (now certificate) % 8 ≡ 0) × (length (now certificate) ≤ 24576) ⌝ }
-    ensures { λ r. ⌜ r ≡ any-taken (now (entries .entry)) 0 (all-records (now (certificate .entry))) ⌝ }
+// Marks the entries record by record. Answers how many pairs there are.
+fn mark_all(certificate: &[u8], entries: &mut [Entry]) -> usize
+    requires { ⌜ (length (now certificate) % 8 ≡ 0) × (length (now certificate) ≤ 24576) × (length (now entries) ≡ 2048) ⌝ }
+    ensures { λ r. ⌜ Keeps (all-records (now (certificate .entry))) (record { count = r; entries = now (entries .exit) }) ⌝ }
 {
     let n = certificate.len() / 8;
     let mut number = 0u16;
+    let mut count = 0;
     let mut i = 0;
     while i < n {
         number = numbered_at(certificate, i, number);
-        let slot = slot_at(certificate, i);
+        let at = place_at(certificate, i, count);
         let entry = entry_at(certificate, i, number);
-        if mark(entries, slot, entry) {
-            return true;
-        }
+        mark(entries, at, entry);
+        count = counted_at(certificate, i, count);
         i = i + 1;
     }
-    false
+    count
 }
 
-// Some pair stands twice in the certificate.
-pub fn twice(certificate: &[u8]) -> bool
+// Keeps the pairs of a certificate.
+pub fn keep(certificate: &[u8]) -> Store
     requires { ⌜ (length (now certificate) % 8 ≡ 0) × (length (now certificate) ≤ 24576) ⌝ }
-    ensures { λ r. ⌜ r ≡ any-taken (replicate 2048 none) 0 (all-records (now (certificate .entry))) ⌝ }
+    ensures { λ r. ⌜ Keeps (all-records (now (certificate .entry))) r ⌝ }
 {
     let mut entries = [Entry {
         rule: 0,
         place: 0,
         component: 0,
     }; 2048];
-    mark_all(certificate, &mut entries)
+    let count = mark_all(certificate, &mut entries);
+    Store { count, entries }
 }

@@ -98,7 +98,7 @@ pub record Kept-pack (rules : ℕ) (arities starts nodes marks : List ℕ) : Typ
   pub laid : Laid starts nodes rules
   pub arities-long : length arities ≡ 64
   pub marks-long : length marks ≡ 64
-  pub nodes-long : length nodes ≤ 65536
+  pub nodes-long : length nodes ≤ 4096
 
 -- a pair of the system kept there, its right side at `right`
 pub record Pair-kept (p : System) (q : Pair) (rules : ℕ) (arities starts nodes marks : List ℕ) (right : ℕ) : Type 0 where

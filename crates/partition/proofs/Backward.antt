@@ -2,7 +2,7 @@
 use mathlib.Core.Path.{_≡_, refl, sym, ap, _∙_}
 use mathlib.Core.Bool.{Bool, true, false, _&&_, _||_, or-assoc}
 use mathlib.Core.Logic.{_↔_, Iff·rfl}
-use mathlib.Core.List.{List, [], _∷_, _++_, List·Memᴰ}
+use mathlib.Core.List.{List, [], _∷_, _++_, map, List·Memᴰ}
 use Prim.Native.Nat.{ℕ, zero, suc, _+_, _≤_, _<_}
 use native.Mathlib.Omega.{arith}
 use lib.Dec.{ltb, eqb}
@@ -11,20 +11,18 @@ use borrow.Author.Tests.{eqb-true, eqb-false, ltb-true, lt-ltb}
 use Rattle.rewriting.specs.Terms.{System}
 use Rattle.rewriting.specs.Pairs.{Pair}
 use Rattle.rewriting.proofs.Basics.{by-test, not-both, or-left, or-right, or-left-false, or-right-false, or-both-false}
-use Rattle.records.specs.declared.Record.{Record}
-use Rattle.pairs.specs.Listing.{a-pair, pair-record, pair-records}
+use Rattle.pairs.specs.Listing.{a-pair}
 use Rattle.pairs.specs.Arcs.{arc}
 use Rattle.pair_finder.proofs.FromStore.{arc-any-place}
 use Rattle.polynomials.specs.Judging.{any}
 use Rattle.polynomials.proofs.Lists.{mem-at, none-pass}
 use Rattle.certificates.specs.Components.{Component}
-use Rattle.certificates.specs.Encoding.{component-records}
-use Rattle.entries.specs.Entries.{numbered}
+use Rattle.entries.specs.declared.Entry.{Entry}
 use Rattle.judging.specs.Judge.{plain, back-arc}
 use Rattle.judging.specs.Shown.{nth-pair, nth, No-back-arc}
 use Rattle.judging.proofs.Tests.{back-arc-means}
 use Rattle.partition.specs.Working.{lowest, back-to, back-at, any-back}
-use Rattle.partition.proofs.Named.{one-more}
+use Rattle.partition.proofs.Named.{entry-of, entries-from}
 use Rattle.partition.proofs.Lowest.{lowest-at-most, lowest-of}
 
 -- TO ONE PAIR'S RULES
@@ -71,51 +69,46 @@ module _ (p : System) (ls : List ℕ) (rules : ℕ) where
   abbrev back : (own : ℕ) → Pair → Bool
   back own q = back-to p ls own q rules
 
-  back-past : (n : ℕ) (r : Record) (rs : List Record) → eqb (r .kind) 80 ≡ false →
-      any-back p ls rules n (r ∷ rs) ≡ any-back p ls rules (numbered n r) rs
-  unfolding any-back back-at
-  back-past n r rs h = rw h
+  back-pairs : (n : ℕ) (qs : List Pair) (es : List Entry) →
+      any-back p ls rules (map (entry-of n) qs ++ es) ≡ (any (back n) qs || any-back p ls rules es)
+  unfolding any-back back-at any
+  back-pairs n [] es = refl
+  back-pairs n (q ∷ qs) es = rw (back-pairs n qs es) (sym (or-assoc (back n q) (any (back n) qs) (any-back p ls rules es)))
 
-  back-pairs : (n : ℕ) (qs : List Pair) (rs : List Record) →
-      any-back p ls rules n (pair-records qs ++ rs) ≡ (any (back n) qs || any-back p ls rules n rs)
-  unfolding any-back back-at pair-records pair-record numbered any
-  back-pairs n [] rs = refl
-  back-pairs n (q ∷ qs) rs = rw (back-pairs n qs rs) (sym (or-assoc (back n q) (any (back n) qs) (any-back p ls rules n rs)))
+  back-more : (n : ℕ) (c : Component) (cs : List Component) →
+      any-back p ls rules (entries-from n (c ∷ cs)) ≡ (any (back (suc n)) (c .pairs) || any-back p ls rules (entries-from (suc n) cs))
+  unfolding entries-from
+  back-more n c cs = back-pairs (suc n) (c .pairs) (entries-from (suc n) cs)
 
-  back-more : (n i : ℕ) (c : Component) (cs : List Component) →
-      any-back p ls rules n (component-records i (c ∷ cs))
-      ≡ (any (back (suc n)) (c .pairs) || any-back p ls rules (suc n) (component-records (suc i) cs))
-  back-more = one-more (any-back p ls rules) back-past (λ n qs b. any (back n) qs || b) back-pairs
-
-  back-nil : (n i : ℕ) → any-back p ls rules n (component-records i []) ≡ false
-  unfolding any-back component-records
-  back-nil n i = refl
+  back-nil : (n : ℕ) → any-back p ls rules (entries-from n []) ≡ false
+  unfolding any-back entries-from
+  back-nil n = refl
 
   none-any : (own : ℕ) (c : Component) →
       (any (back own) (c .pairs) ≡ false) ↔ ((k : ℕ) → k < length (c .pairs) → back own (nth-pair c k) ≡ false)
   unfolding nth-pair
   none-any own c = none-pass (back own) (a-pair 0 0) (c .pairs) (λ k _. Iff·rfl)
 
-  none-back : (n i : ℕ) (cs : List Component) → any-back p ls rules n (component-records i cs) ≡ false →
+  none-back : (n : ℕ) (cs : List Component) → any-back p ls rules (entries-from n cs) ≡ false →
       (j k own : ℕ) → j < length cs → k < length (nth cs j .pairs) → own ≡ suc (n + j) → back own (nth-pair (nth cs j) k) ≡ false
   unfolding nth
-  none-back n i [] h j k own l f e = absurd (omega arith)
-  none-back n i (c ∷ cs) h zero k own l f e =
+  none-back n [] h j k own l f e = absurd (omega arith)
+  none-back n (c ∷ cs) h zero k own l f e =
       let z : own ≡ suc n = omega arith in
-      rw z (none-any (suc n) c .0 (or-left-false _ _ (rw (back-more n i c cs) at h)) k f)
-  none-back n i (c ∷ cs) h (suc j) k own l f e =
-      let rest = or-right-false (any (back (suc n)) (c .pairs)) _ (rw (back-more n i c cs) at h) in
-      none-back (suc n) (suc i) cs rest j k own (omega arith) f (omega arith)
+      rw z (none-any (suc n) c .0 (or-left-false _ _ (rw (back-more n c cs) at h)) k f)
+  none-back n (c ∷ cs) h (suc j) k own l f e =
+      let rest = or-right-false (any (back (suc n)) (c .pairs)) _ (rw (back-more n c cs) at h) in
+      none-back (suc n) cs rest j k own (omega arith) f (omega arith)
 
-  back-none : (n i : ℕ) (cs : List Component) →
+  back-none : (n : ℕ) (cs : List Component) →
       ((j k own : ℕ) → j < length cs → k < length (nth cs j .pairs) → own ≡ suc (n + j) → back own (nth-pair (nth cs j) k) ≡ false) →
-      any-back p ls rules n (component-records i cs) ≡ false
+      any-back p ls rules (entries-from n cs) ≡ false
   unfolding nth
-  back-none n i [] h = back-nil n i
-  back-none n i (c ∷ cs) h =
-      rw (back-more n i c cs)
+  back-none n [] h = back-nil n
+  back-none n (c ∷ cs) h =
+      rw (back-more n c cs)
       (or-both-false (none-any (suc n) c .1 (λ k f. h 0 k (suc n) (omega arith) f (omega arith)))
-      (back-none (suc n) (suc i) cs (λ j k own l f e. h (suc j) k own (omega arith) f (omega arith))))
+      (back-none (suc n) cs (λ j k own l f e. h (suc j) k own (omega arith) f (omega arith))))
 
 -- BOTH WAYS
 
@@ -125,30 +118,30 @@ same-by-false true false h k = k refl
 same-by-false false b h k = sym (h refl)
 
 module _ (p : System) (cs : List Component) (ls : List ℕ) (rules : ℕ) (few : length cs < 65535)
-    (lows : (s : ℕ) → s < rules → getD ls s 0 ≡ lowest s 0 (component-records 0 cs))
+    (lows : (s : ℕ) → s < rules → getD ls s 0 ≡ lowest s (entries-from 0 cs))
     (small : (i : ℕ) → i < length cs → (q : Pair) → List·Memᴰ q (nth cs i .pairs) → q .at-rule < rules) where
   rule-small : (j l : ℕ) → j < length cs → l < length (nth cs j .pairs) → nth-pair (nth cs j) l .at-rule < rules
   unfolding nth-pair
   rule-small j l h f = small j h _ (mem-at (a-pair 0 0) (nth cs j .pairs) l f)
 
   -- the rule of a lower pair has its lowest component there or below
-  then-no-arc : any-back p ls rules 0 (component-records 0 cs) ≡ false → No-back-arc p cs
+  then-no-arc : any-back p ls rules (entries-from 0 cs) ≡ false → No-back-arc p cs
   unfolding No-back-arc
   then-no-arc h i j k l b c e f =
       let q = nth-pair (nth cs i) k in
       let r = nth-pair (nth cs j) l in
       let s = r .at-rule in
       let in-rules : s < rules = rule-small j l (omega arith) f in
-      let least = lowest-at-most s 0 0 cs j l (omega arith) f refl in
+      let least = lowest-at-most s 0 cs j l (omega arith) f refl in
       let less : getD ls s 0 < suc i = omega (arith, lows s in-rules) in
-      let none = not-back-to p ls (suc i) q rules s in-rules (none-back p ls rules 0 0 cs h i k (suc i) c e (omega arith)) in
+      let none = not-back-to p ls (suc i) q rules s in-rules (none-back p ls rules 0 cs h i k (suc i) c e (omega arith)) in
       arc-any-place p q s (r .place) ∙ when-true (ltb (getD ls s 0) (suc i)) _ (lt-ltb _ _ less) none
 
   -- a rule with its lowest component below has a pair there
-  then-not-back : No-back-arc p cs → any-back p ls rules 0 (component-records 0 cs) ≡ false
+  then-not-back : No-back-arc p cs → any-back p ls rules (entries-from 0 cs) ≡ false
   unfolding No-back-arc nth-pair
   then-not-back h =
-      back-none p ls rules 0 0 cs
+      back-none p ls rules 0 cs
       (λ i k own c e is.
       no-back-to p ls own (nth-pair (nth cs i) k) rules
       (λ s t. by-test (ltb (getD ls s 0) own) (λ u. rw u (one i k s c e t (let v = ltb-true (getD ls s 0) own u in omega arith))) (λ u. rw u)))
@@ -157,14 +150,14 @@ module _ (p : System) (cs : List Component) (ls : List ℕ) (rules : ℕ) (few :
           arc p (nth-pair (nth cs i) k) (a-pair s 0) ≡ false
       one i k s c e t u =
           let low = lows s t in
-          let w = lowest-of s 0 0 cs (omega arith) in
+          let w = lowest-of s 0 cs (omega arith) in
           let at = w .is in
           let r = w .among in
           let q = nth-pair (nth cs i) k in
           let f = h i (w .at) k (r .at) (omega arith) c e (r .in-range) in
           ap (λ (x : ℕ). arc p q (a-pair x 0)) (sym (r .is)) ∙ sym (arc-any-place p q _ (nth-pair (nth cs (w .at)) (r .at) .place)) ∙ f
 
-  pub back-means : any-back p ls rules 0 (component-records 0 cs) ≡ back-arc (plain p) [] cs
+  pub back-means : any-back p ls rules (entries-from 0 cs) ≡ back-arc (plain p) [] cs
   back-means = same-by-false _ _ (λ h. back-arc-means p cs .1 (then-no-arc h)) (λ h. then-not-back (back-arc-means p cs .0 h))
 
 pub one-component : (p : System) (cs : List Component) → length cs ≤ 1 → back-arc (plain p) [] cs ≡ false

@@ -3,16 +3,18 @@
 use mathlib.Core.Path.{_≡_, refl, sym, ap, _∙_}
 use mathlib.Core.Bool.{true, false, _&&_, not}
 use mathlib.Core.List.{List, [], _∷_}
-use Prim.Native.Nat.{ℕ, _+_, _≤_}
+use Prim.Native.Nat.{ℕ, zero, suc, _+_, _*_, _≤_}
 use native.Mathlib.Omega.{arith}
 use lib.Dec.{ltb, eqb}
-use lib.ListN.{length}
+use lib.ListN.{length, getD, length-append}
 use borrow.Author.Tests.{eqb-true, eq-eqb, ltb-false, le-ltb, not-true}
 use Rattle.rewriting.specs.Terms.{System}
 use Rattle.rewriting.specs.Pairs.{Pair, is-pair}
 use Rattle.rewriting.proofs.Basics.{by-test, same-test, and-left, and-right, and-both, or-left-false, or-right-false, or-both-false, Each, each-nil, each-cons, each-head, each-tail, each-map, each-by}
 use Rattle.pairs.specs.Listing.{a-pair, pairs, same-pair, count-pair}
 use Rattle.pairs.proofs.Listed.{pairs-listed, same-pair-refl, same-pair-eq}
+use Rattle.pair_finder.specs.Walking.{rule-pairs, first-pairs, Laid}
+use Rattle.pair_finder.proofs.Marked.{part-places-few, rule-pairs-long}
 use Rattle.judging.specs.Judge.{each-once}
 use Rattle.partition.specs.Working.{doubled, All-pairs}
 
@@ -117,3 +119,18 @@ module _ (p : System) (qs : List Pair) (h : All-pairs p qs) where
 
 pub counted-once : (p : System) (qs : List Pair) → All-pairs p qs → each-once (pairs p) qs ≡ (eqb (length qs) (length (pairs p)) && not (doubled qs))
 counted-once p qs h = same-test _ _ (then-counted p qs h) (then-once p qs h)
+
+-- HOW MANY there are: each right side has at most 32 nodes
+
+module _ (ss ns ms : List ℕ) (rules : ℕ) (laid : Laid ss ns rules) where
+  first-few : (n : ℕ) → n ≤ rules → length (first-pairs ss ns ms n) ≤ 32 * n
+  unfolding first-pairs
+  first-few zero h = omega arith
+  first-few (suc n) h =
+      let from = getD ss (2 * n + 1) 0 in
+      let to = getD ss (2 * n + 2) 0 in
+      omega
+      (arith, first-few n (omega arith), length-append (first-pairs ss ns ms n) (rule-pairs ss ns ms n), rule-pairs-long ss ns ms n, part-places-few ms ns from to, laid .short n h)
+
+  pub pairs-few : length (first-pairs ss ns ms rules) ≤ 2048
+  pairs-few = omega (arith, first-few rules (omega arith), laid .few)

@@ -1,8 +1,8 @@
--- The lowest component with a pair of a rule, over the records of components.
+-- The lowest component with a pair of a rule, over the entries of components.
 use mathlib.Core.Path.{_≡_, refl}
 use mathlib.Core.Bool.{Bool, true, false, _||_, cond}
 use mathlib.Core.Logic.{_⊎_, inl, inr, ⊎-elim}
-use mathlib.Core.List.{List, [], _∷_, _++_}
+use mathlib.Core.List.{List, [], _∷_, _++_, map}
 use Prim.Native.Nat.{ℕ, zero, suc, _+_, _≤_, _<_, min}
 use native.Mathlib.Omega.{arith}
 use lib.Dec.{ltb, eqb}
@@ -10,15 +10,13 @@ use lib.ListN.{length, getD}
 use borrow.Author.Tests.{eqb-true, eq-eqb, ltb-true, ltb-false}
 use Rattle.rewriting.specs.Pairs.{Pair}
 use Rattle.rewriting.proofs.Basics.{by-test, not-both, or-left, or-right, or-cases}
-use Rattle.records.specs.declared.Record.{Record}
-use Rattle.pairs.specs.Listing.{a-pair, pair-record, pair-records}
+use Rattle.pairs.specs.Listing.{a-pair}
 use Rattle.polynomials.specs.Judging.{any}
 use Rattle.certificates.specs.Components.{Component}
-use Rattle.certificates.specs.Encoding.{component-records}
-use Rattle.entries.specs.Entries.{numbered}
+use Rattle.entries.specs.declared.Entry.{Entry}
 use Rattle.judging.specs.Shown.{nth-pair, nth}
 use Rattle.partition.specs.Working.{lowest}
-use Rattle.partition.proofs.Named.{one-more}
+use Rattle.partition.proofs.Named.{entry-of, entries-from}
 
 module _ (s : ℕ) where
   -- ONE COMPONENT MORE
@@ -29,27 +27,24 @@ module _ (s : ℕ) where
   abbrev lower : (own : ℕ) → List Pair → ℕ → ℕ
   lower n qs m = cond (any of-rule qs) (min n m) m
 
-  lowest-past : (n : ℕ) (r : Record) (rs : List Record) → eqb (r .kind) 80 ≡ false → lowest s n (r ∷ rs) ≡ lowest s (numbered n r) rs
-  unfolding lowest
-  lowest-past n r rs h = rw h
-
   lower-more : (a b : Bool) (n m : ℕ) → cond a (min n (cond b (min n m) m)) (cond b (min n m) m) ≡ cond (a || b) (min n m) m
   lower-more true true n m = omega arith
   lower-more true false n m = refl
   lower-more false b n m = refl
 
-  lowest-pairs : (n : ℕ) (qs : List Pair) (rs : List Record) → lowest s n (pair-records qs ++ rs) ≡ lower n qs (lowest s n rs)
-  unfolding lowest pair-records pair-record numbered any
-  lowest-pairs n [] rs = refl
-  lowest-pairs n (q ∷ qs) rs = rw (lowest-pairs n qs rs) (lower-more (of-rule q) (any of-rule qs) n (lowest s n rs))
+  lowest-pairs : (n : ℕ) (qs : List Pair) (es : List Entry) → lowest s (map (entry-of n) qs ++ es) ≡ lower n qs (lowest s es)
+  unfolding lowest any
+  lowest-pairs n [] es = refl
+  lowest-pairs n (q ∷ qs) es = rw (lowest-pairs n qs es) (lower-more (of-rule q) (any of-rule qs) n (lowest s es))
 
-  lowest-more : (n i : ℕ) (c : Component) (cs : List Component) →
-      lowest s n (component-records i (c ∷ cs)) ≡ lower (suc n) (c .pairs) (lowest s (suc n) (component-records (suc i) cs))
-  lowest-more = one-more (lowest s) lowest-past lower lowest-pairs
+  lowest-more : (n : ℕ) (c : Component) (cs : List Component) →
+      lowest s (entries-from n (c ∷ cs)) ≡ lower (suc n) (c .pairs) (lowest s (entries-from (suc n) cs))
+  unfolding entries-from
+  lowest-more n c cs = lowest-pairs (suc n) (c .pairs) (entries-from (suc n) cs)
 
-  lowest-none : (n i : ℕ) → lowest s n (component-records i []) ≡ 65535
-  unfolding lowest component-records
-  lowest-none n i = refl
+  lowest-none : (n : ℕ) → lowest s (entries-from n []) ≡ 65535
+  unfolding lowest entries-from
+  lowest-none n = refl
 
   -- AT MOST the number of each component with a pair of the rule
 
@@ -63,15 +58,15 @@ module _ (s : ℕ) where
   lower-at-most true n m = omega arith
   lower-at-most false n m = omega arith
 
-  pub lowest-at-most : (n i : ℕ) (cs : List Component) (k l : ℕ) →
-      k < length cs → l < length (nth cs k .pairs) → nth-pair (nth cs k) l .at-rule ≡ s → lowest s n (component-records i cs) ≤ suc (n + k)
+  pub lowest-at-most : (n : ℕ) (cs : List Component) (k l : ℕ) →
+      k < length cs → l < length (nth cs k .pairs) → nth-pair (nth cs k) l .at-rule ≡ s → lowest s (entries-from n cs) ≤ suc (n + k)
   unfolding nth nth-pair
-  lowest-at-most n i [] k l h f e = absurd (omega arith)
-  lowest-at-most n i (c ∷ cs) zero l h f e = rw (lowest-more n i c cs, any-of (c .pairs) l f e) (omega arith)
-  lowest-at-most n i (c ∷ cs) (suc k) l h f e =
-      let rest = lowest s (suc n) (component-records (suc i) cs) in
-      let below = lowest-at-most (suc n) (suc i) cs k l (omega arith) f e in
-      rw (lowest-more n i c cs) (omega (arith, lower-at-most (any of-rule (c .pairs)) (suc n) rest))
+  lowest-at-most n [] k l h f e = absurd (omega arith)
+  lowest-at-most n (c ∷ cs) zero l h f e = rw (lowest-more n c cs, any-of (c .pairs) l f e) (omega arith)
+  lowest-at-most n (c ∷ cs) (suc k) l h f e =
+      let rest = lowest s (entries-from (suc n) cs) in
+      let below = lowest-at-most (suc n) cs k l (omega arith) f e in
+      rw (lowest-more n c cs) (omega (arith, lower-at-most (any of-rule (c .pairs)) (suc n) rest))
 
   -- IT HAS ONE, if any component does
 
@@ -102,17 +97,17 @@ module _ (s : ℕ) where
       by-test (ltb n m) (λ h. let l = ltb-true n m h in inl (refl, omega arith)) (λ h. let l = ltb-false n m h in inr (omega arith))
   here-or-later false n m = inr refl
 
-  pub lowest-of : (n i : ℕ) (cs : List Component) → lowest s n (component-records i cs) < 65535 →
-      Lowest (lowest s n (component-records i cs)) n cs
+  pub lowest-of : (n : ℕ) (cs : List Component) → lowest s (entries-from n cs) < 65535 →
+      Lowest (lowest s (entries-from n cs)) n cs
   unfolding nth
-  lowest-of n i [] h = absurd (omega (arith, lowest-none n i))
-  lowest-of n i (c ∷ cs) h =
-      let e = lowest-more n i c cs in
-      let rest = lowest s (suc n) (component-records (suc i) cs) in
+  lowest-of n [] h = absurd (omega (arith, lowest-none n))
+  lowest-of n (c ∷ cs) h =
+      let e = lowest-more n c cs in
+      let rest = lowest s (entries-from (suc n) cs) in
       ⊎-elim
       (λ here. let f = here .1 in record { at = 0; in-range = omega arith; is = omega arith; among = some-of (c .pairs) (here .0) })
       (λ later.
-      let l = lowest-of (suc n) (suc i) cs (omega arith) in
+      let l = lowest-of (suc n) cs (omega arith) in
       let f = l .is in
       let g = l .in-range in
       record { at = suc (l .at); in-range = omega arith; is = omega arith; among = l .among })

@@ -1,5 +1,5 @@
--- How the code judges 8 and 9: record by record, with the number of the component that each record belongs to. The contracts
--- between our own functions speak of it; no promise to a user does.
+-- How the code judges 8 and 9: over the entries of the pairs that the certificate names, each with the number of its component.
+-- The contracts between our own functions speak of it; no promise to a user does.
 use mathlib.Core.Path.{_≡_}
 use mathlib.Core.Bool.{Bool, true, false, _&&_, _||_, cond}
 use mathlib.Core.List.{List, [], _∷_}
@@ -8,11 +8,8 @@ use lib.Dec.{ltb, eqb}
 use lib.ListN.{length, getD, set}
 use Rattle.rewriting.specs.Terms.{System}
 use Rattle.rewriting.specs.Pairs.{Pair, is-pair}
-use Rattle.records.specs.declared.Record.{Record}
 use Rattle.records.specs.declared.Answer.{Answer}
 use Rattle.records.specs.Outcomes.{passed, refusal}
-use Rattle.records.specs.Records.{record-at}
-use Rattle.records.specs.Order.{P-pair}
 use Rattle.records.specs.Answers.{outcome-of}
 use Rattle.pack_reader.specs.Stored.{Stored}
 use Rattle.pairs.specs.Listing.{a-pair, pairs, count-pair}
@@ -20,7 +17,8 @@ use Rattle.pairs.specs.Arcs.{arc}
 use Rattle.certificates.specs.Components.{Component}
 use Rattle.certificates.specs.Reading.{read-certificate}
 use Rattle.judging.specs.Judge.{plain, all-pairs, each-once, back-arc}
-use Rattle.entries.specs.Entries.{numbered}
+use Rattle.entries.specs.declared.Entry.{Entry}
+use Rattle.entries.specs.Entries.{none}
 
 -- some pair stands twice
 unfoldable pub doubled : List Pair → Bool
@@ -35,30 +33,36 @@ All-pairs p qs = (k : ℕ) → k < length qs → is-pair p (getD qs k (a-pair 0 
 unfoldable pub All-small : List Pair → Type 0
 All-small qs = (k : ℕ) → k < length qs → (getD qs k (a-pair 0 0) .at-rule < 64) × (getD qs k (a-pair 0 0) .place < 32)
 
--- how many pairs the records name
-unfoldable pub named : List Record → ℕ
-named [] = 0
-named (r ∷ rs) = cond (eqb (r .kind) P-pair) (suc (named rs)) (named rs)
+-- the pair that an entry names
+abbrev pub named : Entry → Pair
+named e = a-pair (e .rule) (e .place)
 
--- the lowest component that names a pair of rule s; 65535 if none does
-unfoldable pub lowest : (s before : ℕ) → List Record → ℕ
-lowest s b [] = 65535
-lowest s b (r ∷ rs) =
-    let m = numbered b r in
-    cond (eqb (r .kind) P-pair && eqb (r .a) s) (min m (lowest s m rs)) (lowest s m rs)
+-- the slot of that pair
+abbrev pub slot : Entry → ℕ
+slot e = 32 * e .rule + e .place
+
+-- some entry's slot is marked when its turn comes
+unfoldable pub any-marked : (seen : List ℕ) → List Entry → Bool
+any-marked seen [] = false
+any-marked seen (e ∷ es) = ltb 0 (getD seen (slot e) 0) || any-marked (set seen (slot e) 1) es
+
+-- the lowest component with a pair of rule s; 65535 if none has one
+unfoldable pub lowest : (s : ℕ) → List Entry → ℕ
+lowest s [] = 65535
+lowest s (e ∷ es) = cond (eqb (e .rule) s) (min (e .component) (lowest s es)) (lowest s es)
 
 -- an arc leads from the pair to one of the first rules with a pair in a component below its own
 unfoldable pub back-to : System → (lows : List ℕ) → (own : ℕ) → Pair → (rules : ℕ) → Bool
 back-to p ls own q zero = false
 back-to p ls own q (suc s) = back-to p ls own q s || (ltb (getD ls s 0) own && arc p q (a-pair s 0))
 
--- it does from a pair that a record names
-unfoldable pub back-at : System → (lows : List ℕ) → (rules own : ℕ) → Record → Bool
-back-at p ls n own r = eqb (r .kind) P-pair && back-to p ls own (a-pair (r .a) (r .b)) n
+-- it does from the pair of an entry
+unfoldable pub back-at : System → (lows : List ℕ) → (rules : ℕ) → Entry → Bool
+back-at p ls n e = back-to p ls (e .component) (named e) n
 
-unfoldable pub any-back : System → (lows : List ℕ) → (rules before : ℕ) → List Record → Bool
-any-back p ls n b [] = false
-any-back p ls n b (r ∷ rs) = let m = numbered b r in back-at p ls n m r || any-back p ls n m rs
+unfoldable pub any-back : System → (lows : List ℕ) → (rules : ℕ) → List Entry → Bool
+any-back p ls n [] = false
+any-back p ls n (e ∷ es) = back-at p ls n e || any-back p ls n es
 
 -- the root of rule s's left side, as a byte
 abbrev pub root : (starts nodes : List ℕ) → (s : ℕ) → ℕ
@@ -86,10 +90,9 @@ pub record Keyed (rules : ℕ) (starts nodes lows keys roots : List ℕ) : Type 
   pub keys-are : Keys rules starts nodes lows keys
   pub roots-are : Roots rules starts nodes lows roots
 
--- every P record names a pair of the system
-unfoldable pub Names-pairs : System → (certificate : List ℕ) → Type 0
-Names-pairs p ds =
-    (k : ℕ) → 8 * k + 8 ≤ length ds → record-at ds (8 * k) .kind ≡ P-pair → is-pair p (a-pair (record-at ds (8 * k) .a) (record-at ds (8 * k) .b)) ≡ true
+-- every entry names a pair of the system
+unfoldable pub Names-pairs : System → List Entry → Type 0
+Names-pairs p es = (k : ℕ) → k < length es → is-pair p (named (getD es k none)) ≡ true
 
 -- a certificate that was read for a pack that is kept
 pub record Judgeable (p : System) (certificate : List ℕ) (components rules : ℕ) (arities starts nodes marks : List ℕ) : Type 0 where

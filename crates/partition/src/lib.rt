@@ -1,18 +1,18 @@
 // 8 and 9: every pair stands once, and no arc leads back to a lower component.
+use entries::Entry;
 use records::Answer;
 use records::Refusal;
 ghost use mathlib.Core.Path.{_≡_};
-ghost use mathlib.Core.Bool.{cond};
+ghost use mathlib.Core.Bool.{true, cond};
 ghost use mathlib.Core.List.{List};
 ghost use Prim.Native.Nat.{ℕ, _+_, _*_, _%_, _≤_, _<_, min};
-ghost use lib.Dec.{eqb};
-ghost use lib.ListN.{length, getD, replicate};
+ghost use lib.Dec.{ltb, eqb};
+ghost use lib.ListN.{length, getD, set};
 ghost use Rattle.rewriting.specs.Terms.{System};
-ghost use Rattle.rewriting.specs.Pairs.{Pair};
-ghost use Rattle.records.specs.Records.{all-records, record-at};
+ghost use Rattle.rewriting.specs.Pairs.{Pair, is-pair};
 ghost use Rattle.pack_reader.specs.Stored.{Stored};
 ghost use Rattle.pair_finder.specs.Walking.{Kept-pack, Pair-kept};
-ghost use Rattle.partition.specs.Working.{named, lowest, back-to, back-at, any-back, Begun, Keys, Roots, Keyed, Names-pairs, Judgeable, Ordered-as};
+ghost use Rattle.partition.specs.Working.{named, slot, back-to, back-at, Begun, Keys, Roots, Keyed, Judgeable, Ordered-as};
 
 // Lowers entry s to this component.
 fn lower(lows: &mut [u16], s: usize, number: u16)
@@ -27,26 +27,18 @@ fn lower(lows: &mut [u16], s: usize, number: u16)
     }
 }
 
-// The lowest component with a pair of each rule. Answers how many pairs the certificate names.
-fn lowest_components(certificate: &[u8], lows: &mut [u16]) -> usize
-    requires { ⌜ (length (now certificate) % 8 ≡ 0) × (length (now certificate) ≤ 24576) × (now lows ≡ replicate 64 65535) ⌝ }
-    ensures counts { λ r. ⌜ r ≡ named (all-records (now (certificate .entry))) ⌝ }
-    ensures lowest { λ _. ⌜ (length (now (lows .exit)) ≡ 64) × ((s : ℕ) → s < 64 → getD (now (lows .exit)) s 0 ≡ lowest s 0 (all-records (now (certificate .entry)))) ⌝ }
+// Lowers the rule's lowest component to the entry's and marks the pair's slot. Says whether it was marked before.
+fn note(e: Entry, lows: &mut [u16], seen: &mut [u8]) -> bool
+    requires { ⌜ slot e < length (now seen) ⌝ }
+    ensures length { λ _. ⌜ length (now (lows .exit)) ≡ length (now (lows .entry)) ⌝ }
+    ensures lowered { λ _. ⌜ ((t : ℕ) → t < length (now (lows .entry)) → getD (now (lows .exit)) t 0 ≡ cond (eqb (e .rule) t) (min (e .component) (getD (now (lows .entry)) t 0)) (getD (now (lows .entry)) t 0)) ⌝ }
+    ensures marks { λ r. ⌜ (r ≡ ltb 0 (getD (now (seen .entry)) (slot e) 0)) × (now (seen .exit) ≡ set (now (seen .entry)) (slot e) 1) ⌝ }
 {
-    let n = certificate.len() / 8;
-    let mut number = 0u16;
-    let mut pairs = 0;
-    let mut i = 0;
-    while i < n {
-        number = entries::numbered_at(certificate, i, number);
-        let r = records::record_at(certificate, 8 * i);
-        if r.kind == b'P' {
-            lower(lows, r.a as usize, number);
-            pairs = pairs + 1;
-        }
-        i = i + 1;
-    }
-    pairs
+    lower(lows, e.rule as usize, e.component);
+    let slot = 32 * (e.rule as usize) + e.place as usize;
+    let before = seen[slot];
+    seen[slot] = 1;
+    0 < before
 }
 
 // The root of each rule's left side and the rule's lowest component, as one number.
@@ -110,11 +102,9 @@ fn back_from(
     false
 }
 
-// The same from the pair that record i names, of component `own`.
-fn back_from_record(
-    certificate: &[u8],
-    i: usize,
-    own: u16,
+// The same from the pair of an entry.
+fn back_from_entry(
+    e: Entry,
     arities: &[u8],
     starts: &[u16],
     nodes: &[u8],
@@ -123,14 +113,10 @@ fn back_from_record(
     keys: &[u32],
     roots: &[u16],
 ) -> bool
-    requires { ⌜ (8 * i + 8 ≤ length (now certificate)) × (i ≤ 4096) × Kept-pack rules (now arities) (now starts) (now nodes) (now marks) × ((lows : List ℕ) × Keyed rules (now starts) (now nodes) lows (now keys) (now roots)) × ((p : System) × (symbols : ℕ) × Stored p symbols rules (now arities) (now starts) (now nodes) (now marks) × Names-pairs p (now certificate)) ⌝ }
-    ensures { λ r. ⌜ ((p : System) (symbols : ℕ) (lows : List ℕ) → Stored p symbols rules (now (arities .entry)) (now (starts .entry)) (now (nodes .entry)) (now (marks .entry)) → Names-pairs p (now (certificate .entry)) → Keyed rules (now (starts .entry)) (now (nodes .entry)) lows (now (keys .entry)) (now (roots .entry)) → r ≡ back-at p lows rules own (record-at (now (certificate .entry)) (8 * i))) ⌝ }
+    requires { ⌜ Kept-pack rules (now arities) (now starts) (now nodes) (now marks) × ((lows : List ℕ) × Keyed rules (now starts) (now nodes) lows (now keys) (now roots)) × ((p : System) × (symbols : ℕ) × Stored p symbols rules (now arities) (now starts) (now nodes) (now marks) × (is-pair p (named e) ≡ true)) ⌝ }
+    ensures { λ r. ⌜ ((p : System) (symbols : ℕ) (lows : List ℕ) → Stored p symbols rules (now (arities .entry)) (now (starts .entry)) (now (nodes .entry)) (now (marks .entry)) → is-pair p (named e) ≡ true → Keyed rules (now (starts .entry)) (now (nodes .entry)) lows (now (keys .entry)) (now (roots .entry)) → r ≡ back-at p lows rules e) ⌝ }
 {
-    let r = records::record_at(certificate, 8 * i);
-    if r.kind != b'P' {
-        return false;
-    }
-    let right = starts[2 * (r.a as usize) + 1] as usize + r.b as usize;
+    let right = starts[2 * (e.rule as usize) + 1] as usize + e.place as usize;
     back_from(
         arities,
         starts,
@@ -140,47 +126,10 @@ fn back_from_record(
         keys,
         roots,
         right,
-        own,
+        e.component,
     )
 }
 
-// The same from some pair.
-fn arc_back(
-    certificate: &[u8],
-    arities: &[u8],
-    starts: &[u16],
-    nodes: &[u8],
-    marks: &[u8],
-    rules: usize,
-    keys: &[u32],
-    roots: &[u16],
-) -> bool
-    requires { ⌜ (length (now certificate) % 8 ≡ 0) × (length (now certificate) ≤ 24576) × Kept-pack rules (now arities) (now starts) (now nodes) (now marks) × ((lows : List ℕ) × Keyed rules (now starts) (now nodes) lows (now keys) (now roots)) × ((p : System) × (symbols : ℕ) × Stored p symbols rules (now arities) (now starts) (now nodes) (now marks) × Names-pairs p (now certificate)) ⌝ }
-    ensures { λ r. ⌜ ((p : System) (symbols : ℕ) (lows : List ℕ) → Stored p symbols rules (now (arities .entry)) (now (starts .entry)) (now (nodes .entry)) (now (marks .entry)) → Names-pairs p (now (certificate .entry)) → Keyed rules (now (starts .entry)) (now (nodes .entry)) lows (now (keys .entry)) (now (roots .entry)) → r ≡ any-back p lows rules 0 (all-records (now (certificate .entry)))) ⌝ }
-{
-    let n = certificate.len() / 8;
-    let mut number = 0u16;
-    let mut i = 0;
-    while i < n {
-        number = entries::numbered_at(certificate, i, number);
-        if back_from_record(
-            certificate,
-            i,
-            number,
-            arities,
-            starts,
-            nodes,
-            marks,
-            rules,
-            keys,
-            roots,
-        ) {
-            return true;
-        }
-        i = i + 1;
-    }
-    false
-}
 // 8, then 9, of a certificate that was read.
 pub fn judge(
     certificate: &[u8],
@@ -194,13 +143,20 @@ pub fn judge(
     requires { ⌜ (length (now certificate) % 8 ≡ 0) × (length (now certificate) ≤ 24576) × Kept-pack rules (now arities) (now starts) (now nodes) (now marks) × ((p : System) × Judgeable p (now certificate) components rules (now arities) (now starts) (now nodes) (now marks)) ⌝ }
     ensures { λ r. ⌜ ((p : System) (j : Judgeable p (now (certificate .entry)) components rules (now (arities .entry)) (now (starts .entry)) (now (nodes .entry)) (now (marks .entry))) → Ordered-as p (j .all) r) ⌝ }
 {
-    let mut lows = [65535u16; 64];
-    let stated = lowest_components(certificate, &mut lows);
-    if stated != pair_finder::listing::count_pairs(starts, nodes, marks, rules) {
+    let store = entries::keep(certificate);
+    let n = store.count;
+    if n != pair_finder::listing::count_pairs(starts, nodes, marks, rules) {
         return Answer::Refused(Refusal::PairCount);
     }
-    if entries::twice(certificate) {
-        return Answer::Refused(Refusal::PairCount);
+    let mut lows = [65535u16; 64];
+    let mut seen = [0u8; 2048];
+    let mut i = 0;
+    while i < n {
+        let e = store.entries[i];
+        if note(e, &mut lows, &mut seen) {
+            return Answer::Refused(Refusal::PairCount);
+        }
+        i = i + 1;
     }
     // One component has no lower one.
     if components <= 1 {
@@ -210,17 +166,13 @@ pub fn judge(
     keep_keys(starts, nodes, rules, &lows, &mut keys);
     let mut roots = [65535u16; 64];
     lowest_of_roots(starts, nodes, rules, &lows, &mut roots);
-    if arc_back(
-        certificate,
-        arities,
-        starts,
-        nodes,
-        marks,
-        rules,
-        &keys,
-        &roots,
-    ) {
-        return Answer::Refused(Refusal::BackArc);
+    i = 0;
+    while i < n {
+        let e = store.entries[i];
+        if back_from_entry(e, arities, starts, nodes, marks, rules, &keys, &roots) {
+            return Answer::Refused(Refusal::BackArc);
+        }
+        i = i + 1;
     }
     Answer::Passed(0)
 }

@@ -7,7 +7,9 @@ use Rattle.entries.proofs.entry_at.Statement.{statement}
 use Rattle.entries.proofs.entry_at.Tie as tie
 
 returns : tie.Need-returns
-returns c = ap (λ (r : Record). entry r (c .before .before .args .component)) (c .record-at .ensures)
+returns c =
+    let read = c .before .before in
+    ap (λ (r : Record). entry r (read .before .before .args .component)) (read .record-at .ensures)
 
 pub entry-at-spec : {M : Type 1} → statement M
-entry-at-spec = tie.close (tie.spec (λ c. search needs) (λ c κs. search needs) returns)
+entry-at-spec = tie.close (tie.spec (λ c. search needs) (λ c κs. search needs) (λ c. search needs) (λ c. search needs) returns)

@@ -56,7 +56,7 @@ early c = λ p q lows k keyed.
     sym (none-lower p q (a .rules) _ _ _ _ (a .right) k lows (a .own) (a .roots .now) (keyed .roots-are) (c .if1 .taken))
 
 ended : tie.Need-skip-requires Inv-loop μ-loop
-ended c κs = let start = c .before .before .before .before .before .before .before .before .before in (start .pre .0 .arities-long, start .pre .0 .nodes-long, kept-right start)
+ended c κs = let start = c .before .before .before .before .before .before .before .before .before in (start .pre .0 .arities-long, omega (arith, start .pre .0 .nodes-long), kept-right start)
 
 asked : tie.Need-arc-to-requires Inv-loop μ-loop
 asked c κs =
@@ -69,7 +69,7 @@ asked c κs =
       pack .arities-long,
       pack .laid .starts-long,
       pack .marks-long,
-      pack .nodes-long,
+      omega (arith, pack .nodes-long),
       turn .before .before .skip .ensures,
       asked-of (w .0) (w .1) (a .rules) (a .arities .now) (a .starts .now) (a .nodes .now) (a .marks .now) (a .right) (l .s) (w .2) (turn .loop-test .taken),
     )
