@@ -2,16 +2,20 @@
 -- there as terms that can be weighed.
 use mathlib.Core.Path.{_≡_, refl, sym, ap, _∙_}
 use mathlib.Core.Bool.{true, false, not}
-use mathlib.Core.List.{List}
-use Prim.Native.Nat.{ℕ, _+_, _*_, _≤_, _<_}
+use mathlib.Core.List.{List, _++_}
+use Prim.Native.Nat.{ℕ, zero, suc, _+_, _*_, _-_, _≤_, _<_}
 use native.Mathlib.Omega.{arith}
-use lib.ListN.{length, getD, take, length-append}
+use lib.Dec.{ltb}
+use lib.ListN.{length, getD, take, length-append, List·getD-append}
+use lib.Seq.{getD-append-add}
+use borrow.Author.Tests.{ltb-true, ltb-false}
 use Rattle.rewriting.specs.Terms.{Tree, var, app, nil, cons, System, rule, no-rule, is-term}
 use Rattle.rewriting.specs.Pairs.{Pair, subterms, arguments, defined-root, pair-left, pair-right, is-pair}
 use Rattle.rewriting.specs.Systems.{is-app, variables-below}
-use Rattle.rewriting.proofs.Basics.{or-left-false, or-right-false, Each, each-nil, each-cons, each-append, each-map}
+use Rattle.rewriting.proofs.Basics.{by-test, or-left-false, or-right-false, Each, each-nil, each-cons, each-append}
 use Rattle.rewriting.proofs.Pairs.{pair-rule, pair-place, pair-defined, pair-right-has, pair-right-term, pair-right-small}
 use Rattle.terms.specs.Sides.{flat}
+use Rattle.terms.proofs.Parsing.{length-flat}
 use Rattle.terms.specs.Kept.{Kept}
 use Rattle.pack_reader.specs.Stored.{Stored}
 use Rattle.pair_finder.proofs.FromStore.{stored-rule, subterm-at}
@@ -23,15 +27,28 @@ use Rattle.polynomials.specs.Judging.{any, rule-over, rule-rises, call-over, ca
 use Rattle.weights.specs.Working.{Weighable, Applied, verdict}
 use Rattle.judging.specs.Judge.{call}
 
--- a subterm has no more nodes than the term
-subterms-short : (t : Tree) → Each (λ u. length (flat u) ≤ length (flat t)) (subterms t)
+-- a subterm ends within the term
+subterm-inside : (t : Tree) (k : ℕ) → k < length (subterms t) → k + length (flat (getD (subterms t) k nil)) ≤ length (flat t)
 unfolding subterms flat
-subterms-short (var v) = each-cons (var v) _ (omega arith) each-nil
-subterms-short (app f ts) = each-cons (app f ts) _ (omega arith) (each-map (λ u h. omega arith) (subterms-short ts))
-subterms-short nil = each-nil
-subterms-short (cons t ts) =
-    let both = length-append (flat t) (flat ts) in
-    each-append (each-map (λ u h. omega arith) (subterms-short t)) (each-map (λ u h. omega arith) (subterms-short ts))
+subterm-inside (var v) zero h = omega arith
+subterm-inside (var v) (suc k) h = absurd (omega arith)
+subterm-inside (app f ts) zero h = omega arith
+subterm-inside (app f ts) (suc k) h = let below = subterm-inside ts k (omega arith) in omega arith
+subterm-inside nil k h = absurd (omega arith)
+subterm-inside (cons t ts) k h =
+    let long = length-append (flat t) (flat ts) in
+    let many = length-append (subterms t) (subterms ts) in
+    let same = length-flat t in
+    by-test (ltb k (length (subterms t)))
+    (λ e.
+    let l = ltb-true k (length (subterms t)) e in
+    rw (List·getD-append (subterms t) (subterms ts) nil k l) (let below = subterm-inside t k l in omega arith))
+    (λ e.
+    let l = ltb-false k (length (subterms t)) e in
+    let z : k ≡ length (subterms t) + (k - length (subterms t)) = omega arith in
+    let there : getD (subterms t ++ subterms ts) k nil ≡ getD (subterms ts) (k - length (subterms t)) nil =
+    ap (λ n. getD (subterms t ++ subterms ts) n nil) z ∙ getD-append-add (subterms t) (subterms ts) (k - length (subterms t)) nil in
+    rw there (let below = subterm-inside ts (k - length (subterms t)) (omega arith) in omega arith))
 
 abbrev pub weighting : (weights marked : List Weight) → Weighting
 weighting ws ms = record { weights = ws; marked = ms }
@@ -75,8 +92,8 @@ module _ {p : System} {symbols rules : ℕ} {ar ss ns ms : List ℕ} (s : Stored
   stored-arities = ap (λ (n : ℕ). take n ar) (sym (s .symbols-are)) ∙ s .arities-are
 
   -- a term of the system, kept at a place
-  abbrev weighable : (at : ℕ) (t : Tree) → is-term p t ≡ true → variables-below 16 t ≡ true → Kept ns at (flat t) → length (flat t) ≤ 32 → Weighable ar ns at 32
-  weighable at t is small kept fits =
+  abbrev weighable : (at left : ℕ) (t : Tree) → is-term p t ≡ true → variables-below 16 t ≡ true → Kept ns at (flat t) → length (flat t) ≤ left → Weighable ar ns at left
+  weighable at left t is small kept fits =
       record {
         system = p;
         term = t;
@@ -91,37 +108,36 @@ module _ {p : System} {symbols rules : ℕ} {ar ss ns ms : List ℕ} (s : Stored
 
   -- THE SIDES OF A RULE
   module _ (i : ℕ) (h : i < rules) where
-    in-rules : i < length (p .rules)
-    in-rules = omega (arith, s .rules-are)
+    abbrev begins : ℕ
+    begins = getD ss (2 * i) 0
 
-    pub left-weighable : Weighable ar ns (getD ss (2 * i) 0) 32
+    abbrev middle : ℕ
+    middle = getD ss (2 * i + 1) 0
+
+    abbrev ends : ℕ
+    ends = getD ss (2 * i + 2) 0
+
+    pub sides-rise : (begins ≤ middle) × (middle ≤ ends)
+    sides-rise = (omega (arith, s .rules-at i h .left-long), omega (arith, s .rules-at i h .right-long))
+
+    pub left-weighable : Weighable ar ns begins (middle - begins)
     left-weighable =
         let r = stored-rule p symbols rules ar ss ns ms s h in
-        weighable _ (rule p i .left) (r .left-term) (r .left-small) (s .rules-at i h .left-kept) (s .good .lefts i in-rules)
+        weighable _ _ (rule p i .left) (r .left-term) (r .left-small) (s .rules-at i h .left-kept) (omega (arith, s .rules-at i h .left-long))
 
-    pub right-weighable : Weighable ar ns (getD ss (2 * i + 1) 0) 32
+    pub right-weighable : Weighable ar ns middle (ends - middle)
     right-weighable =
         let r = stored-rule p symbols rules ar ss ns ms s h in
-        weighable _ (rule p i .right) (r .right-term) (r .right-small) (s .rules-at i h .right-kept) (s .good .rights i in-rules)
-
-    -- where they end
-    pub left-ends : getD ss (2 * i + 1) 0 ≡ getD ss (2 * i) 0 + length (flat (left-weighable .term))
-    unfolding left-weighable
-    left-ends = s .rules-at i h .left-long
-
-    pub right-ends : getD ss (2 * i + 2) 0 ≡ getD ss (2 * i + 1) 0 + length (flat (right-weighable .term))
-    unfolding right-weighable
-    right-ends = s .rules-at i h .right-long
+        weighable _ _ (rule p i .right) (r .right-term) (r .right-small) (s .rules-at i h .right-kept) (omega (arith, s .rules-at i h .right-long))
 
     -- what is answered of the terms kept there is said of the rule
     pub rule-answer :
         (ws vs : List Weight) {x : Verdict} →
-        ((l : Weighable ar ns (getD ss (2 * i) 0) 32) (m : Weighable ar ns (getD ss (2 * i + 1) 0) 32) →
-        getD ss (2 * i + 1) 0 ≡ getD ss (2 * i) 0 + length (flat (l .term)) → getD ss (2 * i + 2) 0 ≡ getD ss (2 * i + 1) 0 + length (flat (m .term)) →
+        ((l : Weighable ar ns begins (middle - begins)) (m : Weighable ar ns middle (ends - middle)) →
         x ≡ verdict (rule-over (weighting ws vs) (record { left = l .term; right = m .term })) (not (rule-rises (weighting ws vs) (record { left = l .term; right = m .term })))) →
         x ≡ verdict (rule-over (weighting ws vs) (rule p i)) (not (rule-rises (weighting ws vs) (rule p i)))
     unfolding left-weighable right-weighable
-    rule-answer ws vs answer = answer left-weighable right-weighable left-ends right-ends
+    rule-answer ws vs answer = answer left-weighable right-weighable
 
   -- THE SIDES OF A PAIR
   module _ (q : Pair) (is : is-pair p q ≡ true) where
@@ -131,26 +147,36 @@ module _ {p : System} {symbols rules : ℕ} {ar ss ns ms : List ℕ} (s : Stored
     right-kept : Kept ns (getD ss (2 * q .at-rule + 1) 0 + q .place) (flat (pair-right p q))
     right-kept = subterm-at p symbols rules ar ss ns ms s (q .at-rule) (q .place) pair-in-rules (pair-place p q is)
 
-    right-short : length (flat (pair-right p q)) ≤ 32
-    right-short =
-        omega (arith, pair-right-has p q is (subterms-short (rule p (q .at-rule) .right)), s .good .rights (q .at-rule) (pair-rule p q is))
+    abbrev right-begins : ℕ
+    right-begins = getD ss (2 * q .at-rule + 1) 0 + q .place
 
-    pub left-applied : Applied ar ns (getD ss (2 * q .at-rule) 0)
+    abbrev right-ends : ℕ
+    right-ends = getD ss (2 * q .at-rule + 2) 0
+
+    right-inside : right-begins + length (flat (pair-right p q)) ≤ right-ends
+    unfolding pair-right
+    right-inside =
+        omega (arith, s .rules-at (q .at-rule) pair-in-rules .right-long, subterm-inside (rule p (q .at-rule) .right) (q .place) (pair-place p q is))
+
+    pub right-fits : right-begins ≤ right-ends
+    right-fits = omega (arith, right-inside)
+
+    pub left-applied : Applied ar ns (getD ss (2 * q .at-rule) 0) (getD ss (2 * q .at-rule + 1) 0 - getD ss (2 * q .at-rule) 0)
     unfolding left-weighable
     left-applied =
         record { side = left-weighable (q .at-rule) pair-in-rules; applied = stored-rule p symbols rules ar ss ns ms s pair-in-rules .left-applied }
 
-    pub right-applied : Applied ar ns (getD ss (2 * q .at-rule + 1) 0 + q .place)
+    pub right-applied : Applied ar ns right-begins (right-ends - right-begins)
     right-applied =
         record {
-          side = weighable _ (pair-right p q) (pair-right-term p q is (s .good .good)) (pair-right-small p q is (s .good .good)) right-kept right-short;
+          side = weighable _ _ (pair-right p q) (pair-right-term p q is (s .good .good)) (pair-right-small p q is (s .good .good)) right-kept (omega (arith, right-inside));
           applied = defined-applied p (pair-right p q) (pair-defined p q is);
         }
 
     -- what is answered of the terms kept there is said of the pair
     pub call-answer :
         (ws vs : List Weight) {x : Verdict} → any (rule-over (weighting ws vs)) (p .rules) ≡ false →
-        ((l : Applied ar ns (getD ss (2 * q .at-rule) 0)) (m : Applied ar ns (getD ss (2 * q .at-rule + 1) 0 + q .place)) →
+        ((l : Applied ar ns (getD ss (2 * q .at-rule) 0) (getD ss (2 * q .at-rule + 1) 0 - getD ss (2 * q .at-rule) 0)) (m : Applied ar ns right-begins (right-ends - right-begins)) →
         over ws (arguments (l .side .term)) ≡ false → over ws (arguments (m .side .term)) ≡ false →
         x ≡ verdict (call-over (weighting ws vs) (record { left = l .side .term; right = m .side .term })) (call-falls (weighting ws vs) (record { left = l .side .term; right = m .side .term }))) →
         x ≡ verdict (call-over (weighting ws vs) (call p q)) (call-falls (weighting ws vs) (call p q))

@@ -3,9 +3,9 @@
 use mathlib.Core.Path.{_≡_, refl, sym, ap, _∙_}
 use mathlib.Core.Bool.{false}
 use mathlib.Core.List.{List, [], _∷_}
-use Prim.Native.Nat.{ℕ, zero, suc, _+_, _/_, _≤_, _<_}
+use Prim.Native.Nat.{ℕ, _+_, _/_, _≤_, _<_}
 use native.Mathlib.Omega.{arith}
-use lib.ListN.{length, replicate, length-replicate}
+use lib.ListN.{length, replicate}
 use borrow.Author.Tests.{eq-eqb, ne-eqb}
 use Rattle.rewriting.specs.Terms.{System, Rule}
 use Rattle.records.specs.declared.Answer.{Answer}
@@ -15,13 +15,15 @@ use Rattle.weights.specs.declared.Verdict.{Verdict}
 use Rattle.weights.specs.declared.Verdict.the-variants.{Holds}
 use Rattle.polynomials.specs.Polynomials.{Weight, Weighting}
 use Rattle.polynomials.specs.Judging.{Call, any, rule-over, rule-rises, weightings-refusal, Weighed, one-more}
-use Rattle.weights.specs.Working.{Table-is, verdict}
+use Rattle.weights.specs.Table.{Table-is}
+use Rattle.weights.specs.Working.{verdict}
 use Rattle.polynomials.proofs.Judged.{weighed}
 use Rattle.certificates.specs.Components.{Component}
 use Rattle.judging.specs.Judge.{calls, plain, weighed-refusal, component-refusal}
 use Rattle.checker.specs.Working.{Component-at, Component-fits, Component-judged, Weights-at, chosen, record-count}
 use Rattle.checker.specs.Working.{rules-verdict, calls-verdict, Weights-held, Rules-known, last-weights, Known-after}
 use Rattle.checker.proofs.Positions.{header-here, weights-here, marked-here, records-counted}
+use Rattle.checker.proofs.Tables.{no-weights}
 use Rattle.checker.proofs.Verdicts.{chosen-number}
 
 pub only-weighting : (ws : List Weighting) → length ws ≡ 1 → (w : Weighting) × (ws ≡ w ∷ [])
@@ -41,14 +43,20 @@ rules-hold-under p w cs passed ms =
     let n = none-over-none-rises (weighed (p .rules) (w ∷ []) cs .0 passed) in
     rw (n .0, n .1)
 
--- the table has its length, whether there are such weights or not
-pub table-long : {p : System} {cert : List ℕ} {at : ℕ} (before : ℕ) {table : List ℕ} → Rules-known p cert at before table → length table ≡ 576
-table-long zero k = ap length (k .none refl) ∙ length-replicate {A = ℕ} 576 0
-table-long (suc n) k = k .some (omega arith) .kept .long
-
 -- nothing is known yet
-pub none-known : (p : System) (cert : List ℕ) → Rules-known p cert 0 0 (replicate 576 0)
-none-known p cert = record { behind = omega arith; none = λ e. refl; some = λ h. absurd (omega arith) }
+pub none-known : (p : System) (cert : List ℕ) → Rules-known p cert 0 0 (replicate 1152 0)
+none-known p cert = record { behind = omega arith; none = λ e. no-weights 0 (omega arith); some = λ h. absurd (omega arith) }
+
+-- the other cells of the table do not matter
+pub known-kept :
+    {p : System} {cert : List ℕ} {at : ℕ} (before : ℕ) {table after : List ℕ} → ((ws : List Weight) → Table-is table ws → Table-is after ws) →
+    Rules-known p cert at before table → Rules-known p cert at before after
+known-kept before stay k =
+    record {
+      behind = k .behind;
+      none = λ e. stay [] (k .none e);
+      some = λ h. let held = k .some h in record { weights = held .weights; stand = held .stand; kept = stay _ (held .kept); hold = held .hold };
+    }
 
 -- a component without a weighting changes nothing
 pub known-without : {p : System} {cert : List ℕ} {at before : ℕ} {table : List ℕ} (c : Component) → length (c .weightings) ≡ 0 → Rules-known p cert at before table →

@@ -1,11 +1,11 @@
 -- How the code judges the components: by dense tables of weights. The contracts between our own functions speak of it; no
 -- promise to a user does.
 use mathlib.Core.Path.{_≡_}
-use mathlib.Core.Bool.{Bool, true, false, not, cond}
-use mathlib.Core.List.{List, [], _∷_, _++_, map}
-use Prim.Native.Nat.{ℕ, zero, suc, _+_, _*_, _≤_, _<_}
+use mathlib.Core.Bool.{true, not, cond}
+use mathlib.Core.List.{List, [], _∷_, _++_}
+use Prim.Native.Nat.{ℕ, _+_, _≤_, _<_}
 use lib.Dec.{eqb}
-use lib.ListN.{length, getD, drop, replicate}
+use lib.ListN.{length, getD, drop}
 use Rattle.rewriting.specs.Terms.{System}
 use Rattle.rewriting.specs.Pairs.{Pair}
 use Rattle.records.specs.declared.Record.{Record}
@@ -21,7 +21,8 @@ use Rattle.polynomials.specs.Polynomials.{Weight, Weighting}
 use Rattle.weights.specs.declared.Verdict.{Verdict}
 use Rattle.weights.specs.declared.Verdict.the-variants.{Over, Fails, Holds}
 use Rattle.polynomials.specs.Judging.{any, is-none, without, rule-over, rule-rises, call-over, call-falls}
-use Rattle.weights.specs.Working.{Table-is, verdict}
+use Rattle.weights.specs.Table.{Cells-are, plain-base, marked-base, Table-is}
+use Rattle.weights.specs.Working.{verdict}
 use Rattle.certificates.specs.Components.{Component, no-component}
 use Rattle.certificates.specs.Encoding.{weight-records, component-records}
 use Rattle.partition.specs.Working.{All-pairs}
@@ -62,6 +63,17 @@ pub record Weights-at (certificate : List ℕ) (from : ℕ) (kind : ℕ) (ws : L
   pub are : drop from (all-records certificate) ≡ weight-records kind ws ++ rest
   pub other-kind : (r : Record) (rs : List Record) → rest ≡ r ∷ rs → r .kind ≡ kind → ⊥
   pub fillable : Fillable ws
+
+-- where the cells begin that records of a kind fill, and where the others do
+unfoldable pub own-base : (kind : ℕ) → ℕ
+own-base k = cond (eqb k W-weight) plain-base marked-base
+
+unfoldable pub other-base : (kind : ℕ) → ℕ
+other-base k = cond (eqb k W-weight) marked-base plain-base
+
+-- the others hold what they held
+unfoldable pub Others-stay : (kind : ℕ) → (before after : List ℕ) → Type 0
+Others-stay k before after = (vs : List Weight) → Cells-are (other-base k) before vs → Cells-are (other-base k) after vs
 
 -- the same weights as `vs` stand from record `from` on, and end before record `after`
 pub record Same-weights (vs ws : List Weight) (from after : ℕ) : Type 0 where
@@ -112,7 +124,7 @@ pub record Weights-held (p : System) (certificate : List ℕ) (before : ℕ) (ta
 -- what is known when the components up to record `at` have passed: `before` is where the last weights begin, 0 where there were none
 pub record Rules-known (p : System) (certificate : List ℕ) (at before : ℕ) (table : List ℕ) : Type 0 where
   pub behind : before ≤ at
-  pub none : before ≡ 0 → table ≡ replicate 576 0
+  pub none : before ≡ 0 → Table-is table []
   pub some : 0 < before → Weights-held p certificate before table
 
 -- where the last weights begin once this component has passed

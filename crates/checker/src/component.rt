@@ -4,9 +4,9 @@ use records::Refusal;
 use weights::Verdict;
 ghost use mathlib.Core.Path.{_≡_};
 ghost use mathlib.Core.Bool.{false};
-ghost use mathlib.Core.List.{List};
+ghost use mathlib.Core.List.{List, []};
 ghost use Prim.Native.Nat.{ℕ, _+_, _%_, _≤_, _<_};
-ghost use lib.ListN.{length, replicate};
+ghost use lib.ListN.{length};
 ghost use Rattle.rewriting.specs.Terms.{System};
 ghost use Rattle.rewriting.specs.Pairs.{Pair};
 ghost use Rattle.pack_reader.specs.Stored.{Stored};
@@ -15,7 +15,7 @@ ghost use Rattle.records.specs.Answers.{outcome-of};
 ghost use Rattle.records.specs.Order.{W-weight, M-marked};
 ghost use Rattle.polynomials.specs.Polynomials.{Weight};
 ghost use Rattle.polynomials.specs.Judging.{any, rule-over};
-ghost use Rattle.weights.specs.Working.{Table-is};
+ghost use Rattle.weights.specs.Table.{Table-is, Marked-is};
 ghost use Rattle.certificates.specs.Components.{Component};
 ghost use Rattle.judging.specs.Judge.{components-refusal, plain};
 ghost use Rattle.pair_finder.specs.Walking.{Kept-pack};
@@ -42,9 +42,10 @@ fn choose(rules: Verdict, calls: Verdict, next: usize) -> Answer
 }
 
 // Puts the W records from record `from` on into the table, in place of those from record `before` on. Answers the record after them.
-fn refill(certificate: &[u8], before: usize, from: usize, table: &mut [u16]) -> usize
-    requires { ⌜ (length (now certificate) % 8 ≡ 0) × (length (now certificate) ≤ 24576) × ((ws : List Weight) × Weights-at (now certificate) from W-weight ws) × (before ≡ 0 → now table ≡ replicate 576 0) × (0 < before → ((vs : List Weight) × Weights-at (now certificate) before W-weight vs × Table-is (now table) vs)) ⌝ }
-    ensures { λ r. ⌜ ((ws : List Weight) → Weights-at (now (certificate .entry)) from W-weight ws → (r ≡ from + length ws) × Table-is (now (table .exit)) ws) ⌝ }
+fn refill(certificate: &[u8], before: usize, from: usize, table: &mut [u16; 1152]) -> usize
+    requires { ⌜ (length (now certificate) % 8 ≡ 0) × (length (now certificate) ≤ 24576) × ((ws : List Weight) × Weights-at (now certificate) from W-weight ws) × (before ≡ 0 → Table-is (now table) []) × (0 < before → ((vs : List Weight) × Weights-at (now certificate) before W-weight vs × Table-is (now table) vs)) ⌝ }
+    ensures filled { λ r. ⌜ ((ws : List Weight) → Weights-at (now (certificate .entry)) from W-weight ws → (r ≡ from + length ws) × Table-is (now (table .exit)) ws) ⌝ }
+    ensures marked { λ _. ⌜ ((ms : List Weight) → Marked-is (now (table .entry)) ms → Marked-is (now (table .exit)) ms) ⌝ }
 {
     if before == 0 {
         return crate::weighing::fill(certificate, from, b'W', table);
@@ -61,31 +62,29 @@ fn judge_calls(
     count: usize,
     middle: usize,
     verdict: Verdict,
-    arities: &[u8],
-    marked: &mut [u16],
-    table: &[u16],
+    arities: &[u8; 64],
+    table: &mut [u16; 1152],
     starts: &[u16],
-    nodes: &[u8],
+    nodes: &[u8; 4096],
     marks: &[u8],
     rules: usize,
 ) -> Answer
-    requires { ⌜ (length (now certificate) % 8 ≡ 0) × (length (now certificate) ≤ 24576) × Kept-pack rules (now arities) (now starts) (now nodes) (now marks) × (now marked ≡ replicate 576 0) × (length (now table) ≡ 576) × ((p : System) × (symbols : ℕ) × (qs : List Pair) × (ms : List Weight) × Stored p symbols rules (now arities) (now starts) (now nodes) (now marks) × All-pairs p qs × Pairs-at (now certificate) from qs × (length qs ≡ count) × Weights-at (now certificate) middle M-marked ms) ⌝ }
-    ensures { λ r. ⌜ (now (marked .exit) ≡ replicate 576 0) × ((p : System) (symbols : ℕ) (qs : List Pair) (ws ms : List Weight) → Stored p symbols rules (now (arities .entry)) (now (starts .entry)) (now (nodes .entry)) (now (marks .entry)) → All-pairs p qs → Pairs-at (now (certificate .entry)) from qs → length qs ≡ count → Weights-at (now (certificate .entry)) middle M-marked ms → Table-is (now (table .entry)) ws → any (rule-over (record { weights = ws; marked = ms })) (p .rules) ≡ false → outcome-of r ≡ chosen verdict (calls-verdict p qs ws ms) (middle + length ms)) ⌝ }
+    requires { ⌜ (length (now certificate) % 8 ≡ 0) × (length (now certificate) ≤ 24576) × Kept-pack rules (now arities) (now starts) (now nodes) (now marks) × Marked-is (now table) [] × ((p : System) × (symbols : ℕ) × (qs : List Pair) × (ms : List Weight) × Stored p symbols rules (now arities) (now starts) (now nodes) (now marks) × All-pairs p qs × Pairs-at (now certificate) from qs × (length qs ≡ count) × Weights-at (now certificate) middle M-marked ms) ⌝ }
+    ensures { λ r. ⌜ Marked-is (now (table .exit)) [] × ((ws : List Weight) → Table-is (now (table .entry)) ws → Table-is (now (table .exit)) ws) × ((p : System) (symbols : ℕ) (qs : List Pair) (ws ms : List Weight) → Stored p symbols rules (now (arities .entry)) (now (starts .entry)) (now (nodes .entry)) (now (marks .entry)) → All-pairs p qs → Pairs-at (now (certificate .entry)) from qs → length qs ≡ count → Weights-at (now (certificate .entry)) middle M-marked ms → Table-is (now (table .entry)) ws → any (rule-over (record { weights = ws; marked = ms })) (p .rules) ≡ false → outcome-of r ≡ chosen verdict (calls-verdict p qs ws ms) (middle + length ms)) ⌝ }
 {
-    let next = crate::weighing::fill(certificate, middle, b'M', marked);
+    let next = crate::weighing::fill(certificate, middle, b'M', table);
     let c = crate::weighing::judge_pairs(
         certificate,
         from,
         count,
         arities,
-        marked,
         table,
         starts,
         nodes,
         marks,
         rules,
     );
-    crate::weighing::clear(certificate, middle, b'M', marked);
+    crate::weighing::clear(certificate, middle, b'M', table);
     choose(verdict, c, next)
 }
 
@@ -96,16 +95,15 @@ fn judge_marked(
     count: usize,
     middle: usize,
     verdict: Verdict,
-    arities: &[u8],
-    marked: &mut [u16],
-    table: &[u16],
+    arities: &[u8; 64],
+    table: &mut [u16; 1152],
     starts: &[u16],
-    nodes: &[u8],
+    nodes: &[u8; 4096],
     marks: &[u8],
     rules: usize,
 ) -> Answer
-    requires { ⌜ (length (now certificate) % 8 ≡ 0) × (length (now certificate) ≤ 24576) × Kept-pack rules (now arities) (now starts) (now nodes) (now marks) × (now marked ≡ replicate 576 0) × (length (now table) ≡ 576) × ((p : System) × (symbols : ℕ) × (qs : List Pair) × (ms : List Weight) × Stored p symbols rules (now arities) (now starts) (now nodes) (now marks) × All-pairs p qs × Pairs-at (now certificate) from qs × (length qs ≡ count) × Weights-at (now certificate) middle M-marked ms) ⌝ }
-    ensures { λ r. ⌜ (now (marked .exit) ≡ replicate 576 0) × ((p : System) (symbols : ℕ) (qs : List Pair) (ws ms : List Weight) → Stored p symbols rules (now (arities .entry)) (now (starts .entry)) (now (nodes .entry)) (now (marks .entry)) → All-pairs p qs → Pairs-at (now (certificate .entry)) from qs → length qs ≡ count → Weights-at (now (certificate .entry)) middle M-marked ms → Table-is (now (table .entry)) ws → ((verdict ≡ Verdict.Over → ⊥) → any (rule-over (record { weights = ws; marked = ms })) (p .rules) ≡ false) → outcome-of r ≡ chosen verdict (calls-verdict p qs ws ms) (middle + length ms)) ⌝ }
+    requires { ⌜ (length (now certificate) % 8 ≡ 0) × (length (now certificate) ≤ 24576) × Kept-pack rules (now arities) (now starts) (now nodes) (now marks) × Marked-is (now table) [] × ((p : System) × (symbols : ℕ) × (qs : List Pair) × (ms : List Weight) × Stored p symbols rules (now arities) (now starts) (now nodes) (now marks) × All-pairs p qs × Pairs-at (now certificate) from qs × (length qs ≡ count) × Weights-at (now certificate) middle M-marked ms) ⌝ }
+    ensures { λ r. ⌜ Marked-is (now (table .exit)) [] × ((ws : List Weight) → Table-is (now (table .entry)) ws → Table-is (now (table .exit)) ws) × ((p : System) (symbols : ℕ) (qs : List Pair) (ws ms : List Weight) → Stored p symbols rules (now (arities .entry)) (now (starts .entry)) (now (nodes .entry)) (now (marks .entry)) → All-pairs p qs → Pairs-at (now (certificate .entry)) from qs → length qs ≡ count → Weights-at (now (certificate .entry)) middle M-marked ms → Table-is (now (table .entry)) ws → ((verdict ≡ Verdict.Over → ⊥) → any (rule-over (record { weights = ws; marked = ms })) (p .rules) ≡ false) → outcome-of r ≡ chosen verdict (calls-verdict p qs ws ms) (middle + length ms)) ⌝ }
 {
     match verdict {
         Verdict::Over => Answer::Refused(Refusal::Heavy),
@@ -116,7 +114,6 @@ fn judge_marked(
             middle,
             Verdict::Fails,
             arities,
-            marked,
             table,
             starts,
             nodes,
@@ -130,7 +127,6 @@ fn judge_marked(
             middle,
             Verdict::Holds,
             arities,
-            marked,
             table,
             starts,
             nodes,
@@ -147,16 +143,15 @@ fn weighted(
     at: usize,
     count: usize,
     before: usize,
-    table: &mut [u16],
-    marked: &mut [u16],
-    arities: &[u8],
+    table: &mut [u16; 1152],
+    arities: &[u8; 64],
     starts: &[u16],
-    nodes: &[u8],
+    nodes: &[u8; 4096],
     marks: &[u8],
     rules: usize,
 ) -> Answer
-    requires { ⌜ (length (now certificate) % 8 ≡ 0) × (length (now certificate) ≤ 24576) × Kept-pack rules (now arities) (now starts) (now nodes) (now marks) × (now marked ≡ replicate 576 0) × ((p : System) × (symbols : ℕ) × (c : Component) × Stored p symbols rules (now arities) (now starts) (now nodes) (now marks) × Component-fits p c × Component-at (now certificate) at c × Rules-known p (now certificate) at before (now table) × (length (c .weightings) ≡ 1) × (length (c .pairs) ≡ count)) ⌝ }
-    ensures { λ r. ⌜ (now (marked .exit) ≡ replicate 576 0) × ((p : System) (symbols : ℕ) (c : Component) → Stored p symbols rules (now (arities .entry)) (now (starts .entry)) (now (nodes .entry)) (now (marks .entry)) → Component-fits p c → Component-at (now (certificate .entry)) at c → Rules-known p (now (certificate .entry)) at before (now (table .entry)) → length (c .weightings) ≡ 1 → length (c .pairs) ≡ count → Component-judged p c at r × Known-after p c (now (certificate .entry)) at before (now (table .exit))) ⌝ }
+    requires { ⌜ (length (now certificate) % 8 ≡ 0) × (length (now certificate) ≤ 24576) × Kept-pack rules (now arities) (now starts) (now nodes) (now marks) × Marked-is (now table) [] × ((p : System) × (symbols : ℕ) × (c : Component) × Stored p symbols rules (now arities) (now starts) (now nodes) (now marks) × Component-fits p c × Component-at (now certificate) at c × Rules-known p (now certificate) at before (now table) × (length (c .weightings) ≡ 1) × (length (c .pairs) ≡ count)) ⌝ }
+    ensures { λ r. ⌜ Marked-is (now (table .exit)) [] × ((p : System) (symbols : ℕ) (c : Component) → Stored p symbols rules (now (arities .entry)) (now (starts .entry)) (now (nodes .entry)) (now (marks .entry)) → Component-fits p c → Component-at (now (certificate .entry)) at c → Rules-known p (now (certificate .entry)) at before (now (table .entry)) → length (c .weightings) ≡ 1 → length (c .pairs) ≡ count → Component-judged p c at r × Known-after p c (now (certificate .entry)) at before (now (table .exit))) ⌝ }
 {
     let from = at + 1 + count;
     let same = crate::weighing::same_weights(certificate, before, from);
@@ -168,7 +163,6 @@ fn weighted(
             same,
             Verdict::Holds,
             arities,
-            marked,
             table,
             starts,
             nodes,
@@ -185,7 +179,6 @@ fn weighted(
         middle,
         r,
         arities,
-        marked,
         table,
         starts,
         nodes,
@@ -198,9 +191,9 @@ fn weighted(
 fn unweighted(
     certificate: &[u8],
     at: usize,
-    arities: &[u8],
+    arities: &[u8; 64],
     starts: &[u16],
-    nodes: &[u8],
+    nodes: &[u8; 4096],
     marks: &[u8],
     rules: usize,
 ) -> Answer
@@ -221,16 +214,15 @@ fn judge_component(
     certificate: &[u8],
     at: usize,
     before: usize,
-    table: &mut [u16],
-    marked: &mut [u16],
-    arities: &[u8],
+    table: &mut [u16; 1152],
+    arities: &[u8; 64],
     starts: &[u16],
-    nodes: &[u8],
+    nodes: &[u8; 4096],
     marks: &[u8],
     rules: usize,
 ) -> Answer
-    requires { ⌜ (length (now certificate) % 8 ≡ 0) × (length (now certificate) ≤ 24576) × Kept-pack rules (now arities) (now starts) (now nodes) (now marks) × (now marked ≡ replicate 576 0) × ((p : System) × (symbols : ℕ) × (c : Component) × Stored p symbols rules (now arities) (now starts) (now nodes) (now marks) × Component-fits p c × Component-at (now certificate) at c × Rules-known p (now certificate) at before (now table)) ⌝ }
-    ensures { λ r. ⌜ (now (marked .exit) ≡ replicate 576 0) × ((p : System) (symbols : ℕ) (c : Component) → Stored p symbols rules (now (arities .entry)) (now (starts .entry)) (now (nodes .entry)) (now (marks .entry)) → Component-fits p c → Component-at (now (certificate .entry)) at c → Rules-known p (now (certificate .entry)) at before (now (table .entry)) → Component-judged p c at r × Known-after p c (now (certificate .entry)) at before (now (table .exit))) ⌝ }
+    requires { ⌜ (length (now certificate) % 8 ≡ 0) × (length (now certificate) ≤ 24576) × Kept-pack rules (now arities) (now starts) (now nodes) (now marks) × Marked-is (now table) [] × ((p : System) × (symbols : ℕ) × (c : Component) × Stored p symbols rules (now arities) (now starts) (now nodes) (now marks) × Component-fits p c × Component-at (now certificate) at c × Rules-known p (now certificate) at before (now table)) ⌝ }
+    ensures { λ r. ⌜ Marked-is (now (table .exit)) [] × ((p : System) (symbols : ℕ) (c : Component) → Stored p symbols rules (now (arities .entry)) (now (starts .entry)) (now (nodes .entry)) (now (marks .entry)) → Component-fits p c → Component-at (now (certificate .entry)) at c → Rules-known p (now (certificate .entry)) at before (now (table .entry)) → Component-judged p c at r × Known-after p c (now (certificate .entry)) at before (now (table .exit))) ⌝ }
 {
     let r = records::record_at(certificate, 8 * at);
     if r.b == 0 {
@@ -242,7 +234,6 @@ fn judge_component(
         r.c as usize,
         before,
         table,
-        marked,
         arities,
         starts,
         nodes,
@@ -268,16 +259,15 @@ pub fn judge_components(
     certificate: &[u8],
     components: usize,
     rules: usize,
-    arities: &[u8],
+    arities: &[u8; 64],
     starts: &[u16],
-    nodes: &[u8],
+    nodes: &[u8; 4096],
     marks: &[u8],
 ) -> Answer
     requires { ⌜ (length (now certificate) % 8 ≡ 0) × (length (now certificate) ≤ 24576) × Kept-pack rules (now arities) (now starts) (now nodes) (now marks) × ((p : System) × Components-from p (now certificate) components rules (now arities) (now starts) (now nodes) (now marks)) ⌝ }
     ensures { λ r. ⌜ ((p : System) (a : Components-from p (now (certificate .entry)) components rules (now (arities .entry)) (now (starts .entry)) (now (nodes .entry)) (now (marks .entry))) → refusal (outcome-of r) ≡ components-refusal p (plain p) (a .all)) ⌝ }
 {
-    let mut table = [0u16; 576];
-    let mut marked = [0u16; 576];
+    let mut table = [0u16; 1152];
     let mut before = 0;
     let mut at = 0;
     let mut i = 0;
@@ -287,7 +277,6 @@ pub fn judge_components(
             at,
             before,
             &mut table,
-            &mut marked,
             arities,
             starts,
             nodes,

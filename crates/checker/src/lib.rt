@@ -17,9 +17,9 @@ pub fn judge(
     certificate: &[u8],
     components: usize,
     rules: usize,
-    arities: &[u8],
+    arities: &[u8; 64],
     starts: &[u16],
-    nodes: &[u8],
+    nodes: &[u8; 4096],
     marks: &[u8],
 ) -> Answer
     requires { ⌜ (length (now certificate) % 8 ≡ 0) × (length (now certificate) ≤ 24576) × Kept-pack rules (now arities) (now starts) (now nodes) (now marks) × ((p : System) × Judgeable p (now certificate) components rules (now arities) (now starts) (now nodes) (now marks)) ⌝ }

@@ -1,27 +1,44 @@
 // The weights of a component in dense tables, and all rules and its pairs under them.
 use records::Record;
+use terms::Marked;
+use terms::Symbol;
 use weights::Verdict;
 ghost use mathlib.Core.Path.{_≡_};
 ghost use mathlib.Core.Bool.{true, false, not};
-ghost use mathlib.Core.List.{List};
-ghost use Prim.Native.Nat.{ℕ, _+_, _%_, _≤_, _<_};
-ghost use lib.ListN.{length, replicate};
+ghost use mathlib.Core.List.{List, []};
+ghost use Prim.Native.Nat.{ℕ, _+_, _*_, _%_, _≤_, _<_};
+ghost use lib.ListN.{length, set};
 ghost use Rattle.rewriting.specs.Terms.{System};
 ghost use Rattle.rewriting.specs.Pairs.{Pair};
 ghost use Rattle.records.specs.Order.{W-weight};
 ghost use Rattle.pack_reader.specs.Stored.{Stored};
 ghost use Rattle.polynomials.specs.Polynomials.{Weight};
 ghost use Rattle.polynomials.specs.Judging.{any, is-none, without, rule-over, rule-rises, call-over, call-falls};
-ghost use Rattle.weights.specs.Working.{Table-is, verdict};
+ghost use Rattle.weights.specs.Table.{Cells-are, Table-is, Marked-is};
+ghost use Rattle.weights.specs.Working.{verdict};
 ghost use Rattle.judging.specs.Judge.{calls};
 ghost use Rattle.pair_finder.specs.Walking.{Kept-pack};
 ghost use Rattle.partition.specs.Working.{All-pairs};
-ghost use Rattle.checker.specs.Working.{Weights-at, Same-weights, Pairs-at};
+ghost use Rattle.checker.specs.Working.{Weights-at, Same-weights, Pairs-at, own-base, Others-stay};
 
-// Fills a table from the weight records of a kind that stand from record `from` on. Answers the record after them.
-pub fn fill(certificate: &[u8], from: usize, kind: u8, table: &mut [u16]) -> usize
-    requires { ⌜ (length (now certificate) % 8 ≡ 0) × (length (now certificate) ≤ 24576) × (now table ≡ replicate 576 0) × ((ws : List Weight) × Weights-at (now certificate) from kind ws) ⌝ }
-    ensures { λ r. ⌜ ((ws : List Weight) → Weights-at (now (certificate .entry)) from kind ws → (r ≡ from + length ws) × Table-is (now (table .exit)) ws) ⌝ }
+// Stores a value in the cell of a weight record: W is of a symbol, M of a tuple symbol.
+fn store(table: &mut [u16; 1152], r: Record, value: u16)
+    requires { ⌜ (r .a < 64) × (r .b ≤ 8) ⌝ }
+    ensures { λ _. ⌜ now (table .exit) ≡ set (now (table .entry)) (own-base (r .kind) + (9 * r .a + r .b)) value ⌝ }
+{
+    let i = r.b as usize;
+    if r.kind == b'W' {
+        weights::table::put(table, Symbol(r.a), i, value);
+        return;
+    }
+    weights::table::put_marked(table, Marked(r.a), i, value);
+}
+
+// Fills the table from the weight records of a kind that stand from record `from` on. Answers the record after them.
+pub fn fill(certificate: &[u8], from: usize, kind: u8, table: &mut [u16; 1152]) -> usize
+    requires { ⌜ (length (now certificate) % 8 ≡ 0) × (length (now certificate) ≤ 24576) × Cells-are (own-base kind) (now table) [] × ((ws : List Weight) × Weights-at (now certificate) from kind ws) ⌝ }
+    ensures filled { λ r. ⌜ ((ws : List Weight) → Weights-at (now (certificate .entry)) from kind ws → (r ≡ from + length ws) × Cells-are (own-base kind) (now (table .exit)) ws) ⌝ }
+    ensures others { λ _. ⌜ Others-stay kind (now (table .entry)) (now (table .exit)) ⌝ }
 {
     let n = certificate.len() / 8;
     let mut at = from;
@@ -30,18 +47,17 @@ pub fn fill(certificate: &[u8], from: usize, kind: u8, table: &mut [u16]) -> usi
         if r.kind != kind {
             return at;
         }
-        let f = r.a as usize;
-        let i = r.b as usize;
-        table[9 * f + i] = r.c;
+        store(table, r, r.c);
         at = at + 1;
     }
     at
 }
 
-// Clears a table by the weight records that filled it, which stand from record `from` on.
-pub fn clear(certificate: &[u8], from: usize, kind: u8, table: &mut [u16])
-    requires { ⌜ ((ws : List Weight) × Weights-at (now certificate) from kind ws × Table-is (now table) ws) ⌝ }
-    ensures { λ _. ⌜ now (table .exit) ≡ replicate 576 0 ⌝ }
+// Clears the table by the weight records that filled it, which stand from record `from` on.
+pub fn clear(certificate: &[u8], from: usize, kind: u8, table: &mut [u16; 1152])
+    requires { ⌜ ((ws : List Weight) × Weights-at (now certificate) from kind ws × Cells-are (own-base kind) (now table) ws) ⌝ }
+    ensures cleared { λ _. ⌜ Cells-are (own-base kind) (now (table .exit)) [] ⌝ }
+    ensures others { λ _. ⌜ Others-stay kind (now (table .entry)) (now (table .exit)) ⌝ }
 {
     let n = certificate.len() / 8;
     let mut at = from;
@@ -50,9 +66,7 @@ pub fn clear(certificate: &[u8], from: usize, kind: u8, table: &mut [u16])
         if r.kind != kind {
             return;
         }
-        let f = r.a as usize;
-        let i = r.b as usize;
-        table[9 * f + i] = 0;
+        store(table, r, 0);
         at = at + 1;
     }
 }
@@ -108,36 +122,23 @@ pub fn same_weights(certificate: &[u8], before: usize, from: usize) -> usize
 
 // All rules: over if one is, else failing if one fails.
 pub fn judge_rules(
-    arities: &[u8],
-    table: &[u16],
+    arities: &[u8; 64],
+    table: &[u16; 1152],
     starts: &[u16],
-    nodes: &[u8],
+    nodes: &[u8; 4096],
     marks: &[u8],
     rules: usize,
 ) -> Verdict
-    requires { ⌜ Kept-pack rules (now arities) (now starts) (now nodes) (now marks) × (length (now table) ≡ 576) × ((p : System) × (symbols : ℕ) × Stored p symbols rules (now arities) (now starts) (now nodes) (now marks)) ⌝ }
+    requires { ⌜ Kept-pack rules (now arities) (now starts) (now nodes) (now marks) × ((p : System) × (symbols : ℕ) × Stored p symbols rules (now arities) (now starts) (now nodes) (now marks)) ⌝ }
     ensures { λ r. ⌜ ((p : System) (symbols : ℕ) (ws ms : List Weight) → Stored p symbols rules (now (arities .entry)) (now (starts .entry)) (now (nodes .entry)) (now (marks .entry)) → Table-is (now (table .entry)) ws → r ≡ verdict (any (rule-over (record { weights = ws; marked = ms })) (p .rules)) (not (any (rule-rises (record { weights = ws; marked = ms })) (p .rules)))) ⌝ }
 {
-    let mut factors = [0u64; 32];
-    let mut bounds = [0u64; 32];
-    let mut spans = [0u64; 32];
     let mut failed = false;
     let mut i = 0;
     while i < rules {
         let left = starts[2 * i] as usize;
         let right = starts[2 * i + 1] as usize;
         let end = starts[2 * i + 2] as usize;
-        match weights::judging::judge_rule(
-            arities,
-            table,
-            nodes,
-            left,
-            right,
-            end,
-            &mut factors,
-            &mut bounds,
-            &mut spans,
-        ) {
+        match weights::judging::judge_rule(arities, table, nodes, left, right, end) {
             Verdict::Over => {
                 return Verdict::Over;
             }
@@ -160,23 +161,17 @@ pub fn judge_pairs(
     certificate: &[u8],
     from: usize,
     count: usize,
-    arities: &[u8],
-    marked: &[u16],
-    table: &[u16],
+    arities: &[u8; 64],
+    table: &[u16; 1152],
     starts: &[u16],
-    nodes: &[u8],
+    nodes: &[u8; 4096],
     marks: &[u8],
     rules: usize,
 ) -> Verdict
-    requires { ⌜ (length (now certificate) % 8 ≡ 0) × (length (now certificate) ≤ 24576) × Kept-pack rules (now arities) (now starts) (now nodes) (now marks) × (length (now marked) ≡ 576) × (length (now table) ≡ 576) × ((p : System) × (symbols : ℕ) × (qs : List Pair) × Stored p symbols rules (now arities) (now starts) (now nodes) (now marks) × All-pairs p qs × Pairs-at (now certificate) from qs × (length qs ≡ count)) ⌝ }
-    ensures { λ r. ⌜ ((p : System) (symbols : ℕ) (qs : List Pair) (ws ms : List Weight) → Stored p symbols rules (now (arities .entry)) (now (starts .entry)) (now (nodes .entry)) (now (marks .entry)) → All-pairs p qs → Pairs-at (now (certificate .entry)) from qs → length qs ≡ count → Table-is (now (table .entry)) ws → Table-is (now (marked .entry)) ms → any (rule-over (record { weights = ws; marked = ms })) (p .rules) ≡ false → r ≡ verdict (any (call-over (record { weights = ws; marked = ms })) (calls p qs)) (is-none (without (call-falls (record { weights = ws; marked = ms })) (calls p qs)))) ⌝ }
+    requires { ⌜ (length (now certificate) % 8 ≡ 0) × (length (now certificate) ≤ 24576) × Kept-pack rules (now arities) (now starts) (now nodes) (now marks) × ((p : System) × (symbols : ℕ) × (qs : List Pair) × Stored p symbols rules (now arities) (now starts) (now nodes) (now marks) × All-pairs p qs × Pairs-at (now certificate) from qs × (length qs ≡ count)) ⌝ }
+    ensures { λ r. ⌜ ((p : System) (symbols : ℕ) (qs : List Pair) (ws ms : List Weight) → Stored p symbols rules (now (arities .entry)) (now (starts .entry)) (now (nodes .entry)) (now (marks .entry)) → All-pairs p qs → Pairs-at (now (certificate .entry)) from qs → length qs ≡ count → Table-is (now (table .entry)) ws → Marked-is (now (table .entry)) ms → any (rule-over (record { weights = ws; marked = ms })) (p .rules) ≡ false → r ≡ verdict (any (call-over (record { weights = ws; marked = ms })) (calls p qs)) (is-none (without (call-falls (record { weights = ws; marked = ms })) (calls p qs)))) ⌝ }
 {
-    let mut known = weights::sparse::Gathered {
-        through: false,
-        constant: 0,
-    };
-    let mut sums = [0u64; 16];
-    let mut factors = [0u64; 32];
+    let mut sums = [0u64; 17];
     let mut last = 65536;
     let mut failed = false;
     let mut i = 0;
@@ -184,30 +179,23 @@ pub fn judge_pairs(
         let r = records::record_at(certificate, 8 * (from + i));
         let rule = r.a as usize;
         let left = starts[2 * rule] as usize;
-        let right = starts[2 * rule + 1] as usize + r.b as usize;
+        let middle = starts[2 * rule + 1] as usize;
+        let end = starts[2 * rule + 2] as usize;
+        let right = middle + r.b as usize;
         if rule != last {
-            known = weights::judging::left_side(
+            sums = [0u64; 17];
+            weights::judging::marked_side(
                 arities,
-                marked,
                 table,
                 nodes,
                 left,
+                middle - left,
+                true,
                 &mut sums,
-                &mut factors,
             );
             last = rule;
         }
-        match weights::judging::judge_call(
-            arities,
-            marked,
-            table,
-            nodes,
-            left,
-            right,
-            known,
-            &sums,
-            &mut factors,
-        ) {
+        match weights::judging::judge_call(arities, table, nodes, right, end - right, true, &sums) {
             Verdict::Over => {
                 return Verdict::Over;
             }

@@ -16,13 +16,13 @@ use Rattle.polynomials.specs.Limit.{limit, any-above, over-limit, over, 
 
 -- ONE POLYNOMIAL
 
-below-limit : (xs : List ℕ) → any-above xs ≡ false → (v : ℕ) → v < length xs → getD xs v 0 ≤ limit
+pub below-limit : (xs : List ℕ) → any-above xs ≡ false → (v : ℕ) → v < length xs → getD xs v 0 ≤ limit
 unfolding any-above
 below-limit [] h v k = absurd (omega arith)
 below-limit (x ∷ xs) h zero k = ltb-false limit x (search ors)
 below-limit (x ∷ xs) h (suc v) k = below-limit xs (search ors) v (omega arith)
 
-none-above : (xs : List ℕ) → ((v : ℕ) → v < length xs → getD xs v 0 ≤ limit) → any-above xs ≡ false
+pub none-above : (xs : List ℕ) → ((v : ℕ) → v < length xs → getD xs v 0 ≤ limit) → any-above xs ≡ false
 unfolding any-above
 none-above [] h = refl
 none-above (x ∷ xs) h = or-both-false (le-ltb limit x (h 0 (omega arith))) (none-above xs (λ v k. h (suc v) (omega arith)))

@@ -5,7 +5,6 @@ use Prim.Native.Nat.{ℕ, zero, suc, _+_, _*_}
 use lib.Dec.{ltb, leb, eqb}
 use lib.ListN.{set, replicate}
 use Rattle.rewriting.specs.Terms.{Tree, var, app, nil, cons}
-pub use Rattle.polynomials.specs.declared.Polynomial.{Polynomial}
 
 -- a W or M record: a symbol, 0 for its constant or i for its argument i, and the value there
 pub record Weight : Type 0 where
@@ -23,8 +22,11 @@ unfoldable pub weight : List Weight → (symbol place : ℕ) → ℕ
 weight [] f i = 0
 weight (w ∷ ws) f i = cond (eqb (w .symbol) f && eqb (w .place) i) (w .value) (weight ws f i)
 
--- A linear polynomial (document 01: a form) is the code's struct `Polynomial`: a constant, and a coefficient for each of the
--- variables 0 to 15.
+-- a linear polynomial (document 01: a form): a constant, and a coefficient for each of the variables 0 to 15
+pub record Polynomial : Type 0 where
+  pub constant : ℕ
+  pub coefficients : List ℕ
+
 abbrev pub polynomial : (constant : ℕ) → List ℕ → Polynomial
 polynomial c xs = record { constant = c; coefficients = xs }
 

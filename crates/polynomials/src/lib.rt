@@ -1,5 +1,1 @@
-// A linear polynomial over the variables 0 to 15.
-pub struct Polynomial {
-    pub constant: u64,
-    pub coefficients: [u64; 16],
-}
+// Linear polynomials, their order and the limit: definitions in specs/, what they mean in proofs/. No code.

@@ -23,8 +23,7 @@ use Rattle.packs.specs.Encoding.{pack-bytes, Good-pack}
 use Rattle.pairs.specs.Listing.{pairs, count-pair}
 use Rattle.pairs.specs.Arcs.{may-reach, arc, Reaches}
 use Rattle.pairs.specs.Answers.{listing, arc-question}
-use Rattle.polynomials.specs.declared.Polynomial.{Polynomial}
-use Rattle.polynomials.specs.Polynomials.{Weight, Weighting, weight, polynomial-of, marked-polynomial, at-least, greater}
+use Rattle.polynomials.specs.Polynomials.{Polynomial, Weight, Weighting, weight, polynomial-of, marked-polynomial, at-least, greater}
 use Rattle.polynomials.specs.Values.{Valuation, term-values, marked-value, value-of}
 use Rattle.polynomials.specs.Limit.{over, marked-over, Nodes-within, Side-within}
 use Rattle.certificates.specs.Components.{Component}

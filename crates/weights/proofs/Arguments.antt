@@ -48,30 +48,27 @@ kept-right nodes a (x ∷ ns) ms k =
 
 -- ARGUMENTS
 
--- so many arguments are kept at a place, in fewer nodes than `left`
-pub record Arguments (p : System) (nodes : List ℕ) (next wanted left : ℕ) (ts : Tree) : Type 0 where
+-- so many arguments are kept at a place
+pub record Arguments (p : System) (nodes : List ℕ) (next wanted : ℕ) (ts : Tree) : Type 0 where
   pub rest : Rest p nodes next wanted ts
   pub small : variables-below 16 ts ≡ true
-  pub fits : length (flat ts) < left
 
 -- the first of them, and the others
-pub record Split (p : System) (nodes : List ℕ) (next wanted left : ℕ) (ts : Tree) : Type 0 where
+pub record Split (p : System) (nodes : List ℕ) (next wanted : ℕ) (ts : Tree) : Type 0 where
   pub first : Tree
   pub others : Tree
   pub are : ts ≡ cons first others
   pub is : is-term p first ≡ true
   pub small : variables-below 16 first ≡ true
   pub kept : Kept nodes next (flat first)
-  pub fits : length (flat first) ≤ left - 1
-  pub after : Arguments p nodes (next + length (flat first)) wanted left others
+  pub after : Arguments p nodes (next + length (flat first)) wanted others
 
-pub split : (p : System) (nodes : List ℕ) (next wanted left : ℕ) (ts : Tree) → Arguments p nodes next (suc wanted) left ts → Split p nodes next wanted left ts
+pub split : (p : System) (nodes : List ℕ) (next wanted : ℕ) (ts : Tree) → Arguments p nodes next (suc wanted) ts → Split p nodes next wanted ts
 unfolding width flat variables-below
-split p nodes next wanted left (var v) a = absurd (omega (arith, a .rest .many))
-split p nodes next wanted left (app f ts) a = absurd (omega (arith, a .rest .many))
-split p nodes next wanted left nil a = absurd (omega (arith, a .rest .many))
-split p nodes next wanted left (cons t ts) a =
-    let l = length-append (flat t) (flat ts) in
+split p nodes next wanted (var v) a = absurd (omega (arith, a .rest .many))
+split p nodes next wanted (app f ts) a = absurd (omega (arith, a .rest .many))
+split p nodes next wanted nil a = absurd (omega (arith, a .rest .many))
+split p nodes next wanted (cons t ts) a =
     let w = well-cons p t ts (a .rest .is-well) in
     record {
       first = t;
@@ -80,7 +77,6 @@ split p nodes next wanted left (cons t ts) a =
       is = w .0;
       small = and-left _ (variables-below 16 ts) (a .small);
       kept = kept-left nodes next (flat t) (flat ts) (a .rest .kept);
-      fits = omega (arith, a .fits);
       after =
           record {
             rest =
@@ -91,13 +87,12 @@ split p nodes next wanted left (cons t ts) a =
                   kept = kept-right nodes next (flat t) (flat ts) (a .rest .kept);
                 };
             small = (let s : variables-below 16 (cons t ts) ≡ true = a .small in search ands);
-            fits = omega (arith, a .fits);
           };
     }
 
 -- THE ROOT
 
-module _ (p : System) (arities nodes : List ℕ) (at left : ℕ) (few : length (p .arities) ≤ 64) where
+module _ (p : System) (arities nodes : List ℕ) (at : ℕ) (few : length (p .arities) ≤ 64) where
   -- a variable's byte
   variable-kept :
       (t : Tree) → is-term p t ≡ true → variables-below 16 t ≡ true → Kept nodes at (flat t) → 64 ≤ getD nodes at 0 →
@@ -118,15 +113,15 @@ module _ (p : System) (arities nodes : List ℕ) (at left : ℕ) (few : length (
   pub record Below (t : Tree) : Type 0 where
     pub arguments : Tree
     pub applied : t ≡ app (getD nodes at 0) arguments
-    pub are : Arguments p nodes (at + 1) (code-arity arities (getD nodes at 0)) left arguments
+    pub are : Arguments p nodes (at + 1) (code-arity arities (getD nodes at 0)) arguments
     pub few-arguments : code-arity arities (getD nodes at 0) ≤ 8
 
   module _ (same : take (length (p .arities)) arities ≡ p .arities) (low : (f : ℕ) → f < length (p .arities) → getD (p .arities) f 0 ≤ 8) where
     symbol-kept :
-        (t : Tree) → is-term p t ≡ true → variables-below 16 t ≡ true → Kept nodes at (flat t) → length (flat t) ≤ left → getD nodes at 0 < 64 → Below t
+        (t : Tree) → is-term p t ≡ true → variables-below 16 t ≡ true → Kept nodes at (flat t) → getD nodes at 0 < 64 → Below t
     unfolding flat variables-below code is-term is-list
-    symbol-kept (var v) h s k l b = absurd (let e : getD nodes at 0 ≡ 64 + v = kept-first nodes at (variable v) [] k in omega arith)
-    symbol-kept (app f ts) h s k l b =
+    symbol-kept (var v) h s k b = absurd (let e : getD nodes at 0 ≡ 64 + v = kept-first nodes at (variable v) [] k in omega arith)
+    symbol-kept (app f ts) h s k b =
         let e : getD nodes at 0 ≡ f = kept-first nodes at (symbol f) (flat ts) k in
         let a = well-app p f ts h in
         let n : code-arity arities f ≡ width ts = symbol-arity p arities nodes same few f ts h in
@@ -137,12 +132,11 @@ module _ (p : System) (arities nodes : List ℕ) (at left : ℕ) (few : length (
               record {
                 rest = record { list = a .2; is-well = a .3; many = rw e (sym n); kept = kept-others nodes at (symbol f) (flat ts) k };
                 small = s;
-                fits = l;
               };
           few-arguments = rw e (omega (arith, n, a .1, low f (a .0)));
         }
-    symbol-kept nil h s k l b = absurd (false≢true h)
-    symbol-kept (cons t ts) h s k l b = absurd (false≢true h)
+    symbol-kept nil h s k b = absurd (false≢true h)
+    symbol-kept (cons t ts) h s k b = absurd (false≢true h)
 
 module _ (arities nodes : List ℕ) (at left : ℕ) (w : Weighable arities nodes at left) where
   -- a node stands there
@@ -152,8 +146,8 @@ module _ (arities nodes : List ℕ) (at left : ℕ) (w : Weighable arities nodes
       (omega (arith, w .kept .within), omega (arith, w .fits))
 
   pub root-variable : 64 ≤ getD nodes at 0 → (w .term ≡ var (getD nodes at 0 - 64)) × (getD nodes at 0 - 64 < 16)
-  root-variable h = variable-kept (w .system) arities nodes at left (w .arities-few) (w .term) (w .is) (w .small) (w .kept) h
+  root-variable h = variable-kept (w .system) arities nodes at (w .arities-few) (w .term) (w .is) (w .small) (w .kept) h
 
-  pub root-symbol : getD nodes at 0 < 64 → Below (w .system) arities nodes at left (w .arities-few) (w .term)
+  pub root-symbol : getD nodes at 0 < 64 → Below (w .system) arities nodes at (w .arities-few) (w .term)
   root-symbol h =
-      symbol-kept (w .system) arities nodes at left (w .arities-few) (w .arities-are) (w .arities-small) (w .term) (w .is) (w .small) (w .kept) (w .fits) h
+      symbol-kept (w .system) arities nodes at (w .arities-few) (w .arities-are) (w .arities-small) (w .term) (w .is) (w .small) (w .kept) h

@@ -1,198 +1,154 @@
--- The polynomial of a kept term, argument by argument: what the sum so far comes to together with the arguments that are
--- still to be weighed.
+-- The polynomial of a kept term, argument by argument: what the sums come to together with the arguments that are still to be
+-- weighed.
 use mathlib.Core.Path.{_≡_, refl, sym, ap, _∙_}
-use mathlib.Core.Bool.{Bool, true, false, _||_, not, false≢true}
+use mathlib.Core.Bool.{Bool, true, false, _||_, true≢false}
 use mathlib.Core.List.{List}
 use Prim.Native.Nat.{ℕ, suc, _+_, _*_, _-_, _≤_, _<_}
-use native.Mathlib.Nat.{add-zero}
-use native.Mathlib.Numerals.{add-one}
 use native.Mathlib.Omega.{arith}
-use lib.ListN.{length, getD, set, length-append}
-use borrow.Author.Tests.{not-true, not-false}
-use Rattle.rewriting.specs.Terms.{Tree, var, app, nil, cons, System, width, is-list}
-use Rattle.rewriting.proofs.Trees.{term-not-list}
-use Rattle.terms.specs.Sides.{flat}
-use Rattle.terms.specs.Kept.{code-arity}
-use Rattle.weights.specs.declared.Formed.{Formed}
-use Rattle.polynomials.specs.declared.Polynomial.{Polynomial}
-use Rattle.polynomials.specs.Polynomials.{Weight, weight, polynomial, no-coefficients, summed, combined, polynomials, polynomial-of}
-use Rattle.polynomials.specs.Limit.{over, over-limit}
-use Rattle.weights.specs.Working.{Table-is, Weighable, rooted, rooted-over, Formed-as, added}
-use Rattle.weights.proofs.Working.{rooted-plain, rooted-over-plain, polynomials-cons}
-use Rattle.weights.proofs.Arguments.{Arguments, Split, split, root-symbol}
+use lib.Dec.{ltb}
+use borrow.Author.Tests.{le-ltb}
+use lib.ListN.{length, getD, set}
+use Rattle.rewriting.specs.Terms.{Tree, var, app, nil, cons, is-list}
+use Rattle.rewriting.specs.Pairs.{arguments}
+use Rattle.rewriting.proofs.Basics.{by-test, or-left, or-right, or-left-false, or-right-false, or-both-false}
+use Rattle.polynomials.specs.Polynomials.{Polynomial, Weight, weight, polynomial, no-coefficients, scaled-sum, summed, combined, polynomials, polynomial-of}
+use Rattle.polynomials.specs.Limit.{limit, any-above, over, over-limit}
+use Rattle.polynomials.proofs.Meaning.{Sixteen, polynomials-sixteen}
+use Rattle.weights.specs.Sums.{numbers, Sums, Adds-to, capped}
+use Rattle.weights.specs.Working.{rooted, rooted-over}
+use Rattle.weights.proofs.Working.{polynomials-cons}
+use Rattle.weights.proofs.Adding.{limit-room, all-told, own-constant, own-variable, added-below, Same-sums, saturated, to-come, come-grows, come-all}
 
--- A VARIABLE
+-- WHAT ADDING TELLS
 
-module _ (v : ℕ) (t : Tree) (e : t ≡ var v) where
-  pub variable-read : (at : ℕ) → at + 1 ≡ at + length (flat t)
-  unfolding flat
-  variable-read at = rw e
+module _ (passed : Bool) (should after : List ℕ) (a : Adds-to passed should after) where
+  -- nothing passed the limit
+  pub told-within : ltb limit (getD after 0 0) ≡ false → (passed ≡ false) × (any-above should ≡ false)
+  told-within h =
+      let e = sym (a .told) ∙ h in
+      (or-left-false passed (any-above should) e, or-right-false passed (any-above should) e)
 
-  pub variable-formed :
-      (root ws : List Weight) (next : ℕ) (x : Polynomial) → x ≡ polynomial 0 (set no-coefficients v 1) →
-      Formed-as root ws t (record { within = true; next = next; polynomial = x })
+  pub adds-sums : ltb limit (getD after 0 0) ≡ false → Sums after
+  adds-sums h = record { long = a .long; within = rw (a .are h) (told-within h .1) }
+
+-- the same numbers are to be reached, and the same is told
+pub retold :
+    (p q : Bool) (s t after : List ℕ) → Adds-to p s after → (p || any-above s) ≡ (q || any-above t) →
+    ((p || any-above s) ≡ false → s ≡ t) → Adds-to q t after
+retold p q s t after a e same = record { long = a .long; told = a .told ∙ e; are = λ h. a .are h ∙ same (sym (a .told) ∙ h) }
+
+or-twice : (a b : Bool) → ((a || b) || b) ≡ (a || b)
+or-twice true b = refl
+or-twice false true = refl
+or-twice false false = refl
+
+-- a polynomial's numbers pass the limit exactly if it does
+pub numbers-over : (x : Polynomial) → any-above (numbers x) ≡ over-limit x
+unfolding any-above over-limit
+numbers-over x = refl
+
+-- an application's own polynomial is one of those that its test looks at
+pub root-tells : (rs ws : List Weight) (t : Tree) (f : ℕ) (ts : Tree) → t ≡ app f ts → (rooted-over rs ws t || over-limit (rooted rs ws t)) ≡ rooted-over rs ws t
+unfolding rooted rooted-over
+root-tells rs ws t f ts e = rw e (or-twice (over ws ts) (over-limit (combined rs f (polynomials ws ts))))
+
+-- A VARIABLE AND A CONSTANT
+
+module _ (sums : List ℕ) (l : length sums ≡ 17) (ws : List Weight) (k : ℕ) where
+  pub variable-added :
+      (v : ℕ) (t : Tree) → t ≡ var v → v < 16 → (after : List ℕ) → Adds-to false (set sums (suc v) (getD sums (suc v) 0 + k)) after →
+      Adds-to (rooted-over ws ws t) (scaled-sum k (numbers (rooted ws ws t)) sums) after
   unfolding rooted rooted-over
-  variable-formed root ws next x h = rw e (record { judged = refl; formed = λ k. h })
+  variable-added v t e h after a = rw (e, ← own-variable sums l k v h) a
 
--- THE SUM
+  -- a constant is within the limit
+  constant-within : (a : ℕ) → a < 65536 → over-limit (polynomial a no-coefficients) ≡ false
+  unfolding over-limit any-above limit
+  constant-within a h = or-both-false (le-ltb limit a (omega (arith, limit-room))) refl
 
--- t is weighed, all but its last arguments ts: the sum before its argument i comes to its polynomial with them, and it passes
--- the limit exactly if one of them does or its own polynomial
-pub record Sum-so-far (root ws : List Weight) (f : ℕ) (t ts : Tree) (sum : Polynomial) (i : ℕ) : Type 0 where
-  pub polynomial-is : summed i root f (polynomials ws ts) sum ≡ rooted root ws t
+  pub constant-added :
+      (f : ℕ) (t : Tree) → t ≡ app f nil → weight ws f 0 < 65536 → (after : List ℕ) → Adds-to false (set sums 0 (getD sums 0 0 + k * weight ws f 0)) after →
+      Adds-to (rooted-over ws ws t) (scaled-sum k (numbers (rooted ws ws t)) sums) after
+  unfolding rooted rooted-over combined summed polynomials over
+  constant-added f t e h after a =
+      let o : rooted-over ws ws (app f nil) ≡ false = constant-within (weight ws f 0) h in
+      rw e (rw (o, ← own-constant sums l k (weight ws f 0)) a)
+
+-- THE SUMS SO FAR
+
+-- t is weighed, all but its last arguments ts: the sums before its argument i come to k times its polynomial with them, and it
+-- passes the limit exactly if one of them does or its own polynomial
+pub record Sums-so-far (root ws : List Weight) (f k : ℕ) (skips : Bool) (t ts : Tree) (start sums : List ℕ) (i : ℕ) : Type 0 where
+  pub sums-are : to-come root f k i (polynomials ws ts) sums ≡ scaled-sum k (numbers (rooted root ws t)) start
   pub over-is : (over ws ts || over-limit (rooted root ws t)) ≡ rooted-over root ws t
+  pub known : skips ≡ true → over ws ts ≡ false
 
-module _ (root ws : List Weight) (f : ℕ) where
-  pub sums-none : (t ts : Tree) → t ≡ app f ts → (k : ℕ) → k ≡ weight root f 0 → Sum-so-far root ws f t ts (polynomial k no-coefficients) 1
-  unfolding rooted rooted-over combined
-  sums-none t ts e k h = rw (e, h) (record { polynomial-is = refl; over-is = refl })
+module _ (root ws : List Weight) (f k : ℕ) (skips : Bool) (start : List ℕ) where
+  pub sums-none :
+      (t ts : Tree) → t ≡ app f ts → length start ≡ 17 → (skips ≡ true → over ws (arguments t) ≡ false) →
+      Sums-so-far root ws f k skips t ts start (set start 0 (getD start 0 0 + k * weight root f 0)) 1
+  unfolding rooted rooted-over combined arguments
+  sums-none t ts e l h =
+      rw e
+      (record {
+        sums-are = ap (to-come root f k 1 (polynomials ws ts)) (own-constant start l k (weight root f 0)) ∙ come-all root f k 1 _ start (polynomials-sixteen ws ts) refl l;
+        over-is = refl;
+        known = (rw e at h);
+      })
 
-  module _ (t u us : Tree) (term : is-list u ≡ false) (i : ℕ) (sum : Polynomial) (s : Sum-so-far root ws f t (cons u us) sum i) where
-    -- the next argument passes the limit
-    sums-over : over ws u ≡ true → rooted-over root ws t ≡ true
+  -- once they pass the limit, the whole does
+  pub so-far-over :
+      (t ts : Tree) (sums : List ℕ) (i : ℕ) → Sums-so-far root ws f k skips t ts start sums i → any-above sums ≡ true →
+      any-above (scaled-sum k (numbers (rooted root ws t)) start) ≡ true
+  so-far-over t ts sums i s h = sym (ap any-above (s .sums-are)) ∙ come-grows root f k i (polynomials ws ts) sums h
+
+  -- an argument u is added by the factor that the code takes
+  module _
+      (t u us : Tree) (term : is-list u ≡ false) (i : ℕ) (sums : List ℕ) (s : Sums-so-far root ws f k skips t (cons u us) start sums i)
+      (after : List ℕ) (a : Adds-to (over ws u) (scaled-sum (capped (k * weight root f i)) (numbers (polynomial-of ws u)) sums) after) where
+    abbrev x : Polynomial
+    x = polynomial-of ws u
+
+    same : Same-sums (capped (k * weight root f i)) (k * weight root f i) (numbers x) sums
+    same = saturated (k * weight root f i) (numbers x) sums
+
+    come : to-come root f k (suc i) (polynomials ws us) (scaled-sum (k * weight root f i) (numbers x) sums) ≡ scaled-sum k (numbers (rooted root ws t)) start
+    unfolding to-come
+    come = rw (polynomials-cons ws u us term) at (s .sums-are)
+
+    -- something passed the limit, and so the term does
+    pub argument-over : ltb limit (getD after 0 0) ≡ true → Adds-to (rooted-over root ws t) (scaled-sum k (numbers (rooted root ws t)) start) after
     unfolding over
-    sums-over h = sym (s .over-is) ∙ rw h
+    argument-over h =
+        let whole : (rooted-over root ws t || any-above (scaled-sum k (numbers (rooted root ws t)) start)) ≡ true =
+        by-test (over ws u)
+        (λ o. or-left _ (sym (s .over-is) ∙ rw o))
+        (λ o.
+        let p : any-above (scaled-sum (k * weight root f i) (numbers x) sums) ≡ true = sym (same .passes) ∙ (rw o at (sym (a .told) ∙ h)) in
+        or-right (rooted-over root ws t) (sym (ap any-above come) ∙ come-grows root f k (suc i) (polynomials ws us) _ p)) in
+        record { long = a .long; told = h ∙ sym whole; are = λ e. absurd (true≢false (sym h ∙ e)) }
 
-    -- it does not, and is added
-    pub sums-more : over ws u ≡ false → Sum-so-far root ws f t us (added (weight root f i) (polynomial-of ws u) sum) (suc i)
-    unfolding over summed added
-    sums-more h =
+    -- nothing did
+    pub argument-within : ltb limit (getD after 0 0) ≡ false → Sums-so-far root ws f k skips t us start after (suc i)
+    unfolding over
+    argument-within h =
+        let n = told-within (over ws u) _ after a h in
+        let o : over ws u ≡ false = n .0 in
         record {
-          polynomial-is = (rw (polynomials-cons ws u us term) at (s .polynomial-is));
-          over-is = (rw h at (s .over-is));
+          sums-are = ap (to-come root f k (suc i) (polynomials ws us)) (a .are h ∙ same .are (n .1)) ∙ come;
+          over-is = (rw o at (s .over-is));
+          known = λ e. or-right-false (over ws u) (over ws us) (s .known e);
         }
 
   -- all are added
-  module _ (t : Tree) (i : ℕ) (sum : Polynomial) (s : Sum-so-far root ws f t nil sum i) where
-    pub sums-all : sum ≡ rooted root ws t
-    unfolding polynomials summed
-    sums-all = s .polynomial-is
-
-    pub sums-limit : over-limit sum ≡ rooted-over root ws t
-    unfolding polynomials summed over
-    sums-limit = ap over-limit sums-all ∙ s .over-is
-
--- THE WALK
-
-pub no-arguments : (p : System) (nodes : List ℕ) (next left : ℕ) (ts : Tree) → Arguments p nodes next 0 left ts → ts ≡ nil
-unfolding width is-list
-no-arguments p nodes next left (var v) a = absurd (false≢true (a .rest .list))
-no-arguments p nodes next left (app f ts) a = absurd (false≢true (a .rest .list))
-no-arguments p nodes next left nil a = refl
-no-arguments p nodes next left (cons t ts) a = absurd (omega (arith, a .rest .many))
-
--- the first of the arguments that are left of a kept term after i
-module _
-    (arities nodes : List ℕ) (at left : ℕ) (w : Weighable arities nodes at left) (n next i : ℕ) (rest : Tree)
-    (are : Arguments (w .system) nodes next (n - i) left rest) (more : i < n) where
-  pub first-split : Split (w .system) nodes next (n - (i + 1)) left rest
-  first-split = split (w .system) nodes next (n - (i + 1)) left rest (rw (let e : n - i ≡ suc (n - (i + 1)) = omega arith in e) at are)
-
-  unfoldable pub first-argument : Weighable arities nodes next (left - 1)
-  first-argument =
-      record {
-        system = w .system;
-        term = first-split .first;
-        arities-are = w .arities-are;
-        arities-few = w .arities-few;
-        arities-small = w .arities-small;
-        is = first-split .is;
-        small = first-split .small;
-        kept = first-split .kept;
-        fits = first-split .fits;
-      }
-
--- what is still to be weighed of a kept term after its first i arguments
-pub record Unweighed
-    (arities nodes : List ℕ) (at left : ℕ) (w : Weighable arities nodes at left) (root table : List ℕ) (f n : ℕ) (sum : Polynomial) (next i : ℕ) : Type 0 where
-  pub rest : Tree
-  pub are : Arguments (w .system) nodes next (n - i) left rest
-  pub ends : next + length (flat rest) ≡ at + length (flat (w .term))
-  pub sums : (rs ws : List Weight) → Table-is root rs → Table-is table ws → Sum-so-far rs ws f (w .term) rest sum (i + 1)
-
-module _ (arities nodes : List ℕ) (at left : ℕ) (w : Weighable arities nodes at left) (root table : List ℕ) where
-  -- before the first
-  pub unweighed-all :
-      getD nodes at 0 < 64 → (sum : Polynomial) → sum ≡ polynomial (getD root (9 * getD nodes at 0) 0) no-coefficients →
-      Unweighed arities nodes at left w root table (getD nodes at 0) (code-arity arities (getD nodes at 0)) sum (at + 1) 0
-  unfolding flat
-  unweighed-all low sum e =
-      let below = root-symbol arities nodes at left w low in
-      let n : code-arity arities (getD nodes at 0) - 0 ≡ code-arity arities (getD nodes at 0) = omega arith in
-      let l : length (flat (w .term)) ≡ suc (length (flat (below .arguments))) = ap (λ (t : Tree). length (flat t)) (below .applied) in
-      record {
-        rest = below .arguments;
-        are = rw n (below .are);
-        ends = omega arith;
-        sums = λ rs ws a b.
-            let k = rw add-zero at (a .are (getD nodes at 0) 0 low (omega arith)) in
-            rw e (sums-none rs ws (getD nodes at 0) (w .term) (below .arguments) (below .applied) _ k);
-      }
-
-  module _ (f n : ℕ) (sum : Polynomial) (next i : ℕ) (u : Unweighed arities nodes at left w root table f n sum next i) where
-    -- one is left at least
-    module _ (more : i < n) where
-      abbrev head : Split (w .system) nodes next (n - (i + 1)) left (u .rest)
-      head = first-split arities nodes at left w n next i (u .rest) (u .are) more
-
-      abbrev pub next-argument : Weighable arities nodes next (left - 1)
-      next-argument = first-argument arities nodes at left w n next i (u .rest) (u .are) more
-
-      -- what the code makes of it is r
-      module _ (r : Formed) (means : (rs ws : List Weight) → Table-is table rs → Table-is table ws → Formed-as rs ws (next-argument .term) r) where
-        term-first : is-list (head .first) ≡ false
-        term-first = term-not-list (w .system) (head .first) (head .is)
-
-        judged-first : (ws : List Weight) → Table-is table ws → r .within ≡ not (over ws (head .first))
-        unfolding first-argument
-        judged-first ws b = rw (← rooted-over-plain ws (head .first) term-first) (means ws ws b b .judged)
-
-        first-sums : (rs ws : List Weight) → Table-is root rs → Table-is table ws → Sum-so-far rs ws f (w .term) (cons (head .first) (head .others)) sum (i + 1)
-        first-sums rs ws a b = rw (head .are) at (u .sums rs ws a b)
-
-        -- it passes the limit, and so the term does
-        pub argument-over : r .within ≡ false → (rs ws : List Weight) → Table-is root rs → Table-is table ws → Formed-as rs ws (w .term) r
-        argument-over h rs ws a b =
-            let o : over ws (head .first) ≡ true = not-false _ (sym (judged-first ws b) ∙ h) in
-            let p = sums-over rs ws f (w .term) (head .first) (head .others) term-first (i + 1) sum (first-sums rs ws a b) o in
-            record { judged = rw p h; formed = λ k. absurd (false≢true (sym h ∙ k)) }
-
-        -- it is within the limit, and is added
-        module _ (h : r .within ≡ true) (ends : r .next ≡ next + length (flat (next-argument .term))) (low : f < 64) (few : n ≤ 8) where
-          pub argument-added :
-              (new : Polynomial) → new ≡ added (getD root (9 * f + 1 + i) 0) (r .polynomial) sum →
-              Unweighed arities nodes at left w root table f n new (r .next) (i + 1)
-          unfolding flat first-argument
-          argument-added new e =
-              let l = ap (λ (t : Tree). length (flat t)) (head .are) ∙ length-append (flat (head .first)) (flat (head .others)) in
-              record {
-                rest = head .others;
-                are = rw ends (head .after);
-                ends = omega (arith, u .ends);
-                sums = λ rs ws a b.
-                    let o : over ws (head .first) ≡ false = not-true _ (sym (judged-first ws b) ∙ h) in
-                    let x : r .polynomial ≡ polynomial-of ws (head .first) = means ws ws b b .formed h ∙ rooted-plain ws (head .first) term-first in
-                    let j : 9 * f + 1 + i ≡ 9 * f + (i + 1) = omega arith in
-                    let k : getD root (9 * f + 1 + i) 0 ≡ weight rs f (i + 1) = rw j (a .are f (i + 1) low (omega arith)) in
-                    rw (e, k, x, add-one (i + 1)) (sums-more rs ws f (w .term) (head .first) (head .others) term-first (i + 1) sum (first-sums rs ws a b) o);
-              }
-
-    -- none is left
-    module _ (done : n ≤ i) where
-      none-left : u .rest ≡ nil
-      none-left = no-arguments (w .system) nodes next left (u .rest) (rw (let e : n - i ≡ 0 = omega arith in e) at (u .are))
-
-      pub all-read : next ≡ at + length (flat (w .term))
-      unfolding flat
-      all-read = let l : length (flat (u .rest)) ≡ 0 = ap (λ (t : Tree). length (flat t)) none-left in omega (arith, u .ends)
-
-      -- and the sum is the term's polynomial
-      pub all-weighed :
-          (passed : Bool) → over-limit sum ≡ passed → (rs ws : List Weight) → Table-is root rs → Table-is table ws →
-          Formed-as rs ws (w .term) (record { within = not passed; next = next; polynomial = sum })
-      all-weighed passed e rs ws a b =
-          let s : Sum-so-far rs ws f (w .term) nil sum (i + 1) = rw none-left at (u .sums rs ws a b) in
-          record {
-            judged = ap not (sym e ∙ sums-limit rs ws f (w .term) (i + 1) sum s);
-            formed = λ h. sums-all rs ws f (w .term) (i + 1) sum s;
-          }
+  pub sums-all :
+      (t : Tree) (i : ℕ) (sums : List ℕ) → Sums-so-far root ws f k skips t nil start sums i → 1 ≤ k → length start ≡ 17 → Sixteen (rooted root ws t) → Sums sums →
+      Adds-to (rooted-over root ws t) (scaled-sum k (numbers (rooted root ws t)) start) sums
+  unfolding over polynomials to-come
+  sums-all t i sums s h l n w =
+      let e : sums ≡ scaled-sum k (numbers (rooted root ws t)) start = s .sums-are in
+      let above : any-above (scaled-sum k (numbers (rooted root ws t)) start) ≡ false = rw (← e) (w .within) in
+      let below : over-limit (rooted root ws t) ≡ false =
+      sym (numbers-over (rooted root ws t)) ∙ added-below k (numbers (rooted root ws t)) start h (ap suc n ∙ sym l) above in
+      let o : rooted-over root ws t ≡ false = sym (s .over-is) ∙ below in
+      rw (o, ← e) (all-told sums (w .long) (w .within))

@@ -1,25 +1,22 @@
 -- The code's polynomial of a rooted term: a plain side's if the weights are the same at the root and below it, a pair's side's
 -- if those at the root are of the tuple symbols. So the verdicts on a rule and on a pair are one on two rooted sides.
-use mathlib.Core.Path.{_≡_, refl, sym, _∙_}
+use mathlib.Core.Path.{_≡_, refl, _∙_}
 use mathlib.Core.Bool.{Bool, true, false, _||_, not, Bool·not-not, true≢false, false≢true}
 use mathlib.Core.Logic.{_↔_}
 use mathlib.Core.List.{List, _∷_}
 use Prim.Native.Nat.{ℕ}
 use native.Mathlib.Omega.{arith}
-use borrow.Author.Tests.{not-true, not-false}
 use Rattle.rewriting.specs.Terms.{Tree, var, app, nil, cons, Rule, is-list}
 use Rattle.rewriting.specs.Pairs.{arguments}
 use Rattle.rewriting.specs.Systems.{is-app}
 use Rattle.rewriting.proofs.Basics.{or-right}
 use Rattle.rewriting.proofs.Trees.{term-not-list}
-use Rattle.weights.specs.declared.Formed.{Formed}
 use Rattle.weights.specs.declared.Verdict.{Verdict}
 use Rattle.weights.specs.declared.Verdict.the-variants.{Over, Fails, Holds}
-use Rattle.polynomials.specs.declared.Polynomial.{Polynomial}
-use Rattle.polynomials.specs.Polynomials.{Weight, Weighting, polynomials, first, polynomial-of, marked-polynomial, at-least, greater}
+use Rattle.polynomials.specs.Polynomials.{Polynomial, Weight, Weighting, polynomials, first, polynomial-of, marked-polynomial, at-least, greater}
 use Rattle.polynomials.specs.Limit.{over, marked-over}
 use Rattle.polynomials.specs.Judging.{Call, rule-over, rule-rises, call-over, call-falls}
-use Rattle.weights.specs.Working.{Weighable, Applied, rooted, rooted-over, Formed-as, verdict}
+use Rattle.weights.specs.Working.{Weighable, Applied, rooted, rooted-over, verdict}
 
 -- A PLAIN SIDE
 
@@ -70,27 +67,19 @@ unfoldable pub sides-verdict : (root ws : List Weight) → (Polynomial → Polyn
 sides-verdict root ws test t u = verdict (rooted-over root ws t || rooted-over root ws u) (test (rooted root ws t) (rooted root ws u))
 
 module _ (root ws : List Weight) (test : Polynomial → Polynomial → Bool) (t u : Tree) where
-  pub left-passes : (l : Formed) → Formed-as root ws t l → l .within ≡ false → Over ≡ sides-verdict root ws test t u
+  pub left-passes : rooted-over root ws t ≡ true → Over ≡ sides-verdict root ws test t u
   unfolding sides-verdict verdict
-  left-passes l a h = let o : rooted-over root ws t ≡ true = not-false _ (sym (a .judged) ∙ h) in rw o
+  left-passes o = rw o
 
-  pub right-passes : (r : Formed) → Formed-as root ws u r → r .within ≡ false → Over ≡ sides-verdict root ws test t u
+  pub right-passes : rooted-over root ws u ≡ true → Over ≡ sides-verdict root ws test t u
   unfolding sides-verdict verdict
-  right-passes r b h =
-      let o : rooted-over root ws u ≡ true = not-false _ (sym (b .judged) ∙ h) in
-      rw (or-right (rooted-over root ws t) o)
+  right-passes o = rw (or-right (rooted-over root ws t) o)
 
-  pub neither-over :
+  pub neither-passes :
       rooted-over root ws t ≡ false → rooted-over root ws u ≡ false → (b : Bool) → test (rooted root ws t) (rooted root ws u) ≡ b →
       verdict false b ≡ sides-verdict root ws test t u
   unfolding sides-verdict
-  neither-over o p b e = rw (o, p, e)
-
-  pub neither-passes :
-      (l r : Formed) → Formed-as root ws t l → Formed-as root ws u r → l .within ≡ true → r .within ≡ true →
-      (b : Bool) → test (l .polynomial) (r .polynomial) ≡ b → verdict false b ≡ sides-verdict root ws test t u
-  neither-passes l r a b h k c e =
-      neither-over (not-true _ (sym (a .judged) ∙ h)) (not-true _ (sym (b .judged) ∙ k)) c (rw (← a .formed h, ← b .formed k) e)
+  neither-passes o p b e = rw (o, p, e)
 
 -- on a rule
 pub rule-verdict :
@@ -112,22 +101,22 @@ call-verdict w c h k =
 
 -- the verdict on a kept rule
 pub as-rule :
-    (arities nodes : List ℕ) (left right : ℕ) (l : Weighable arities nodes left 32) (m : Weighable arities nodes right 32) (ws ms : List Weight) (r : Verdict) →
+    (arities nodes : List ℕ) (left right i j : ℕ) (l : Weighable arities nodes left i) (m : Weighable arities nodes right j) (ws ms : List Weight) (r : Verdict) →
     r ≡ sides-verdict ws ws at-least (l .term) (m .term) →
     r ≡ verdict (rule-over (record { weights = ws; marked = ms }) (record { left = l .term; right = m .term }))
     (not (rule-rises (record { weights = ws; marked = ms }) (record { left = l .term; right = m .term })))
-as-rule arities nodes left right l m ws ms r e =
+as-rule arities nodes left right i j l m ws ms r e =
     e ∙ rule-verdict (record { weights = ws; marked = ms }) (record { left = l .term; right = m .term })
     (term-not-list (l .system) (l .term) (l .is))
     (term-not-list (m .system) (m .term) (m .is))
 
 -- the verdict on a kept pair
 pub as-call :
-    (arities nodes : List ℕ) (left right : ℕ) (l : Applied arities nodes left) (m : Applied arities nodes right) (ws ms : List Weight) (r : Verdict) →
+    (arities nodes : List ℕ) (left right i j : ℕ) (l : Applied arities nodes left i) (m : Applied arities nodes right j) (ws ms : List Weight) (r : Verdict) →
     r ≡ sides-verdict ms ws greater (l .side .term) (m .side .term) →
     r ≡ verdict (call-over (record { weights = ws; marked = ms }) (record { left = l .side .term; right = m .side .term }))
     (call-falls (record { weights = ws; marked = ms }) (record { left = l .side .term; right = m .side .term }))
-as-call arities nodes left right l m ws ms r e =
+as-call arities nodes left right i j l m ws ms r e =
     e ∙ call-verdict (record { weights = ws; marked = ms }) (record { left = l .side .term; right = m .side .term }) (l .applied) (m .applied)
 
 -- WHAT A VERDICT TELLS

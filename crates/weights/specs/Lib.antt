@@ -1,2 +1,4 @@
 -- How the code works out polynomials.
+pub mod Table
+pub mod Sums
 pub mod Working

@@ -1,27 +1,21 @@
 // Linear polynomials: the polynomial of a side, the limit, and their order.
-pub mod arithmetic;
-mod exact;
 pub mod judging;
-pub mod sparse;
-pub mod stack;
+mod sums;
+pub mod table;
 
-use polynomials::Polynomial;
+use terms::Symbol;
 ghost use mathlib.Core.Path.{_≡_};
-ghost use mathlib.Core.Bool.{true, false};
+ghost use mathlib.Core.Bool.{false};
 ghost use mathlib.Core.List.{List};
-ghost use Prim.Native.Nat.{_+_, _≤_};
-ghost use lib.ListN.{length};
+ghost use Prim.Native.Nat.{_+_, _≤_, _<_};
+ghost use lib.Dec.{ltb};
+ghost use lib.ListN.{length, getD};
 ghost use Rattle.terms.specs.Sides.{flat};
-ghost use Rattle.polynomials.specs.Polynomials.{Weight};
-ghost use Rattle.polynomials.specs.Limit.{over-limit};
-ghost use Rattle.weights.specs.Working.{Table-is, Weighable, Formed-as};
-
-// A term's polynomial and the place after the term, or that a node of it passes the limit.
-pub struct Formed {
-    pub within: bool,
-    pub next: usize,
-    pub polynomial: Polynomial,
-}
+ghost use Rattle.polynomials.specs.Polynomials.{Weight, scaled-sum};
+ghost use Rattle.polynomials.specs.Limit.{limit};
+ghost use Rattle.weights.specs.Table.{Row-is, Table-is};
+ghost use Rattle.weights.specs.Sums.{numbers, Sums, Adds-to};
+ghost use Rattle.weights.specs.Working.{Weighable, rooted, rooted-over, Known-within};
 
 // What a rule or a pair is found to be: over the limit, its sides not as they must be, or as they must.
 pub enum Verdict {
@@ -30,53 +24,113 @@ pub enum Verdict {
     Holds,
 }
 
-// The polynomial of the term kept at `at`, of at most `left` nodes: its root weighed by `root`, what is below it by `table`.
-pub fn form_at(
-    arities: &[u8],
-    root: &[u16],
-    table: &[u16],
-    nodes: &[u8],
-    at: usize,
-    left: usize,
-) -> Formed
-    requires { ⌜ (length (now arities) ≡ 64) × (length (now root) ≡ 576) × (length (now table) ≡ 576) × (length (now nodes) ≤ 65536) × Weighable (now arities) (now nodes) at left ⌝ }
-    ensures bounded { λ r. ⌜ (r .within ≡ true → over-limit (r .polynomial) ≡ false) ⌝ }
-    ensures ends { λ r. ⌜ ((w : Weighable (now (arities .entry)) (now (nodes .entry)) at left) → r .within ≡ true → r .next ≡ at + length (flat (w .term))) ⌝ }
-    ensures means { λ r. ⌜ ((w : Weighable (now (arities .entry)) (now (nodes .entry)) at left) (rs ws : List Weight) → Table-is (now (root .entry)) rs → Table-is (now (table .entry)) ws → Formed-as rs ws (w .term) r) ⌝ }
+fn wide(x: u16) -> u64
+    ensures { λ r. ⌜ (r ≡ x) × (r < 65536) ⌝ }
 {
-    let code = nodes[at];
-    let c = code as usize;
-    if 64 <= c {
-        return Formed {
-            within: true,
-            next: at + 1,
-            polynomial: arithmetic::unit(c - 64),
-        };
-    }
-    let n = terms::code_arity(arities, code);
-    let mut sum = arithmetic::constant(root[9 * c] as u64);
-    let mut next = at + 1;
-    let mut i = 0;
-    while i < n {
-        let part = form_at(arities, table, table, nodes, next, left - 1);
-        if !part.within {
-            return part;
+    x as u64
+}
+
+fn arity(x: u8) -> usize
+    ensures { λ r. ⌜ (r ≡ x) × (r < 256) ⌝ }
+{
+    x as usize
+}
+
+// Adds `factor` times the polynomial of the term kept at `at`, an application of at most `left` nodes, its root's weights in the
+// table from `row` on. Answers the place after it. As soon as a number passes the limit, the first sum does, and nothing else is
+// known. Under the factor 0 only the limit is asked, and not even that where `skips` says that it is known. The parameters used
+// most come first: six go in registers.
+pub fn form_at(
+    sums: &mut [u64; 17],
+    factor: u64,
+    at: usize,
+    row: usize,
+    table: &[u16; 1152],
+    nodes: &[u8; 4096],
+    arities: &[u8; 64],
+    left: usize,
+    skips: bool,
+) -> usize
+    requires { ⌜ Weighable (now arities) (now nodes) at left × (getD (now nodes) at 0 < 64) × (row + 8 < 1152) × (factor ≤ limit + 1) × Sums (now sums) × (length (now nodes) ≤ 4096) ⌝ }
+    ensures bounded { λ _. ⌜ (length (now (sums .exit)) ≡ 17) × (ltb limit (getD (now (sums .exit)) 0 0) ≡ false → Sums (now (sums .exit))) ⌝ }
+    ensures ends { λ r. ⌜ ((w : Weighable (now (arities .entry)) (now (nodes .entry)) at left) → ltb limit (getD (now (sums .exit)) 0 0) ≡ false → r ≡ at + length (flat (w .term))) ⌝ }
+    ensures means { λ r. ⌜ ((w : Weighable (now (arities .entry)) (now (nodes .entry)) at left) (rs ws : List Weight) → Row-is (now (table .entry)) row (getD (now (nodes .entry)) at 0) rs → Table-is (now (table .entry)) ws → Known-within skips factor rs ws (w .term) → Adds-to (rooted-over rs ws (w .term)) (scaled-sum factor (numbers (rooted rs ws (w .term))) (now (sums .entry))) (now (sums .exit))) ⌝ }
+{
+    if factor == 0 {
+        if skips {
+            return terms::skip(arities, nodes, at);
         }
-        let x = part.polynomial;
-        sum = arithmetic::add_scaled(sum, root[9 * c + 1 + i] as u64, x);
-        next = part.next;
+        let mut fresh = [0u64; 17];
+        let end = form_at(&mut fresh, 1, at, row, table, nodes, arities, left, false);
+        if sums::over(&fresh) {
+            sums::set_over(sums);
+        }
+        return end;
+    }
+    sums::add(sums, 0, factor * wide(table[row]));
+    if sums::over(sums) {
+        return at;
+    }
+    let n = arity(arities[nodes[at] as usize]);
+    if n == 0 {
+        return at + 1;
+    }
+    let mut next = at + 1;
+    let mut i = 1;
+    while i < n {
+        let code = nodes[next];
+        let k = sums::cap(factor * wide(table[row + i]));
+        let c = code as usize;
+        // A variable or a constant is weighed in place.
+        if 64 <= c {
+            sums::add(sums, c - 63, k);
+            next = next + 1;
+        } else {
+            let first = table::row_of(Symbol(code as u16));
+            if arities[c] == 0 {
+                sums::add(sums, 0, k * wide(table[first]));
+                next = next + 1;
+            } else {
+                next = form_at(
+                    sums,
+                    k,
+                    next,
+                    first,
+                    table,
+                    nodes,
+                    arities,
+                    left - (next - at),
+                    skips,
+                );
+            }
+        }
+        if sums::over(sums) {
+            return next;
+        }
         i = i + 1;
     }
-    if arithmetic::passes(sum) {
-        return Formed {
-            within: false,
-            next,
-            polynomial: sum,
-        };
+    let code = nodes[next];
+    let k = sums::cap(factor * wide(table[row + n]));
+    let c = code as usize;
+    if 64 <= c {
+        sums::add(sums, c - 63, k);
+        return next + 1;
     }
-    Formed {
-        within: true,
+    let first = table::row_of(Symbol(code as u16));
+    if arities[c] == 0 {
+        sums::add(sums, 0, k * wide(table[first]));
+        return next + 1;
+    }
+    // The last call of all, so that a chain of unary symbols is a loop.
+    form_at(
+        sums,
+        k,
         next,
-        polynomial: sum,
-    }
+        first,
+        table,
+        nodes,
+        arities,
+        left - (next - at),
+        skips,
+    )
 }

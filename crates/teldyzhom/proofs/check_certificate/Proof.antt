@@ -139,8 +139,6 @@ check-certificate-spec =
     (λ c. search needs)
     (λ c. search needs)
     (λ c. search needs)
-    (λ c. search needs)
-    (λ c. search needs)
     to-judge
     (λ c. search needs)
     (λ c. search needs)

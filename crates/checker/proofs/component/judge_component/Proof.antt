@@ -27,8 +27,8 @@ module _ {cert : List ℕ} {at : ℕ} {c : Component} (here : Component-at cert 
 within : (c : tie.Start) → c .args .at < length (c .args .certificate .now) / 8
 within c = header-here _ _ _ (c .pre .4 .5) .0
 
-abbrev start : tie.After-shared-slice-known5 → tie.Start
-start c = c .before .before .before .before .before .before .before
+abbrev start : tie.After-shared-slice-known3 → tie.Start
+start c = c .before .before .before
 
 unweighted-requires : tie.Need-unweighted-requires
 unweighted-requires c κs =
@@ -43,7 +43,7 @@ unweighted-requires c κs =
 
 weighted-requires : tie.Need-weighted-requires
 weighted-requires c κs =
-    let tested = c .before .before .before in
+    let tested = c .before .before in
     let read = tested .before .before in
     let s = start (read .before) in
     let known = s .pre .4 in (
@@ -75,12 +75,11 @@ returns c =
 
 returns-2 : tie.Need-returns-2
 returns-2 c =
-    let called = c .before .before .before .before in
-    let tested = called .before .before .before .before in
+    let tested = c .before .before .before in
     let read = tested .before .before in (
-      called .weighted .ensures .0,
+      c .weighted .ensures .0,
       λ p symbols d s fits here known.
-          called .weighted .ensures .1 p symbols d s fits here known (one here (read .record-at .ensures) fits (tested .if1 .left))
+          c .weighted .ensures .1 p symbols d s fits here known (one here (read .record-at .ensures) fits (tested .if1 .left))
           (pairs-read _ _ _ here (read .record-at .ensures)),
     )
 
@@ -94,6 +93,4 @@ judge-component-spec =
     returns
     (λ c. search needs)
     weighted-requires
-    (λ c. search needs)
-    (λ c. search needs)
     returns-2)

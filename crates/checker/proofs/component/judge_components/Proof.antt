@@ -2,13 +2,13 @@
 -- stand from record `at` on, their number is the number of all, and what is known of the rules under the last weights.
 use mathlib.Core.Path.{_≡_, refl, sym, ap, _∙_}
 use mathlib.Core.Bool.{Bool, true, false, cond}
-use mathlib.Core.List.{List, _∷_}
+use mathlib.Core.List.{List, [], _∷_}
 use Prim.Native.Nat.{ℕ, suc, _+_, _-_, _≤_, _<_}
 use native.Mathlib.Numerals.{add-one}
 use native.Mathlib.Omega.{arith}
 use borrow.Author.Needs.{needs}
 use lib.Dec.{eqb}
-use lib.ListN.{length, getD, drop, replicate, drop-of-length-le}
+use lib.ListN.{length, getD, drop, drop-of-length-le}
 use lib.Seq.{drop-cons}
 use borrow.Author.Tests.{eqb-true}
 use Rattle.rewriting.specs.Terms.{System}
@@ -23,7 +23,9 @@ use Rattle.certificates.specs.Encoding.{component-records}
 use Rattle.judging.specs.Judge.{plain, component-refusal, components-refusal}
 use Rattle.checker.specs.Working.{Component-at, Component-fits, Component-judged, Rules-known, last-weights, Known-after, Components-from, record-count}
 use Rattle.checker.proofs.Positions.{next-component}
-use Rattle.checker.proofs.Known.{none-known, table-long}
+use Rattle.checker.proofs.Known.{none-known}
+use Rattle.checker.proofs.Tables.{no-weights}
+use Rattle.weights.specs.Table.{Marked-is}
 use Rattle.checker.proofs.component.judge_components.Statement.{statement}
 use Rattle.checker.proofs.component.judge_components.Tie as tie
 
@@ -33,14 +35,14 @@ pub record Components-left (p : System) (cert : List ℕ) (all : List Component)
   pub number : components-refusal p (plain p) all ≡ components-refusal p (plain p) (drop i all)
 
 abbrev Inv-loop : tie.InvT-loop
-Inv-loop certificate components rules arities starts nodes marks table₀ marked₀ before₀ at₀ i₀ table marked before at i =
+Inv-loop certificate components rules arities starts nodes marks table₀ before₀ at₀ i₀ table before at i =
     (i ≤ components)
-    × (marked ≡ replicate 576 0)
+    × Marked-is table []
     × ((p : System) (a : Components-from p certificate components rules arities starts nodes marks) →
     Components-left p certificate (a .all) at i × Rules-known p certificate at before table)
 
 abbrev μ-loop : tie.MeasureT-loop
-μ-loop certificate components rules arities starts nodes marks table₀ marked₀ before₀ at₀ i₀ table marked before at i = components - i
+μ-loop certificate components rules arities starts nodes marks table₀ before₀ at₀ i₀ table before at i = components - i
 
 -- what a component's answer tells of its number
 answer-refused : (b : Bool) (m n k : ℕ) → refused k ≡ cond b (passed m) (refused n) → (b ≡ false) × (k ≡ n)
@@ -105,18 +107,11 @@ module _
           rw (is .1, begins component here) (after (eqb-true n 0 (is .0)))
 
 abbrev start : tie.At-loop Inv-loop μ-loop → tie.Start Inv-loop μ-loop
-start c = c .before .before .before .before .before .before
-
--- the table as a slice
-table-lent : tie.Need-slice-aggregate-judge-component Inv-loop μ-loop
-table-lent c =
-    let l = c .before .before .loop in
-    let asked = start (c .before .before) .pre .3 in
-    sym (table-long (l .before) (l .inv .2 (asked .0) (asked .1) .1))
+start c = c .before .before .before .before
 
 requires : tie.Need-judge-component-requires Inv-loop μ-loop
 requires c κs =
-    let turn = c .before .before in
+    let turn = c .before in
     let l = turn .before .loop in
     let asked = start (turn .before) .pre in
     let p = asked .3 .0 in
@@ -132,8 +127,8 @@ requires c κs =
 
 returns : tie.Need-returns Inv-loop μ-loop
 returns c =
-    let called = c .before .before .before .before .before in
-    let turn = called .before .before .before in
+    let called = c .before .before .before in
+    let turn = called .before .before in
     let l = turn .before .loop in
     λ p a.
     refuses a (l .at) (l .i) (l .inv .2 p a .0) (turn .loop-test .taken)
@@ -141,7 +136,7 @@ returns c =
 
 last-weights-requires : tie.Need-last-weights-requires Inv-loop μ-loop
 last-weights-requires c κs =
-    let turn = c .before .before .before .before .before .before .before .before in
+    let turn = c .before .before .before .before .before in
     let l = turn .before .loop in
     let asked = start (turn .before) .pre in
     let a = asked .3 .1 in
@@ -150,8 +145,8 @@ last-weights-requires c κs =
 again : tie.Need-loop-again Inv-loop μ-loop
 again c =
     let passed = c .before .before in
-    let called = passed .before .before .before .before in
-    let turn = called .before .before .before in
+    let called = passed .before .before in
+    let turn = called .before .before in
     let l = turn .before .loop in
     let h = turn .loop-test .taken in (
       omega arith,
@@ -172,9 +167,7 @@ judge-components-spec =
     (tie.spec
     Inv-loop
     μ-loop
-    (λ c. (omega arith, refl, λ p a. (record { are = a .are; number = refl }, none-known p _)))
-    table-lent
-    (λ c. search needs)
+    (λ c. (omega arith, no-weights 576 (omega arith), λ p a. (record { are = a .are; number = refl }, none-known p _)))
     requires
     (λ c. search needs)
     returns

@@ -22,26 +22,26 @@ holds-not-over v e h = not-same (sym e ∙ h) (λ e. cc)
 returns : tie.Need-returns
 unfolding chosen
 returns c =
-    (c .before .before .before .before .before .before .before .before .before .pre .3, λ p symbols qs ws ms s all stand long there t none. rw (c .enum-told .given .1))
+    (c .before .before .before .before .before .pre .3, λ ws t. t, λ p symbols qs ws ms s all stand long there t none. rw (c .enum-told .given .1))
 
 returns-2 : tie.Need-returns-2
 returns-2 c =
-    let called = c .before .before in
-    let told = called .before .before in (
-      called .judge-calls .ensures .0,
+    let told = c .before .before .enum-told2 .given .1 in
+    let e = c .judge-calls .ensures in (
+      e .0,
+      e .1,
       λ p symbols qs ws ms s all stand long there t none.
-          rw (told .enum-told2 .given .1)
-          (called .judge-calls .ensures .1 p symbols qs ws ms s all stand long there t (none (fails-not-over _ (told .enum-told2 .given .1)))),
+          rw told (e .2 p symbols qs ws ms s all stand long there t (none (fails-not-over _ told))),
     )
 
 returns-3 : tie.Need-returns-3
 returns-3 c =
-    let called = c .before .before in
-    let told = called .before .before in (
-      called .judge-calls2 .ensures .0,
+    let told = c .before .before .enum-told3 .given .1 in
+    let e = c .judge-calls2 .ensures in (
+      e .0,
+      e .1,
       λ p symbols qs ws ms s all stand long there t none.
-          rw (told .enum-told3 .given .1)
-          (called .judge-calls2 .ensures .1 p symbols qs ws ms s all stand long there t (none (holds-not-over _ (told .enum-told3 .given .1)))),
+          rw told (e .2 p symbols qs ws ms s all stand long there t (none (holds-not-over _ told))),
     )
 
 pub judge-marked-spec : {M : Type 1} → statement M
@@ -54,7 +54,5 @@ judge-marked-spec =
     (λ c. search needs)
     (λ c κs. search needs)
     returns
-    (λ c. search needs)
     returns-2
-    (λ c. search needs)
     returns-3)

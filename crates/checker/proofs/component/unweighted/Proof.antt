@@ -90,7 +90,7 @@ next-within : (c : tie.Start) → c .args .at + 1 < length (c .args .certificate
 next-within c = let known = c .pre .3 in its-record (known .3) (known .4) (known .5) (known .6) .0
 
 abbrev start : tie.After-record-at → tie.Start
-start c = c .before .before .before .before .before .before
+start c = c .before .before .before .before
 
 its-rule : (c : tie.After-record-at) → c .record-at .result .a < start c .args .rules
 its-rule c =
@@ -99,44 +99,44 @@ its-rule c =
 
 requires : tie.Need-arc-from-requires
 requires c κs =
-    let read = c .before .before .before in
+    let read = c .before .before .before .before .before in
     let kept = start read .pre .2 in
     let known = start read .pre .3 in (
       kept .arities-long,
       kept .laid .starts-long,
       kept .marks-long,
-      kept .nodes-long,
+      omega (arith, kept .nodes-long),
       asked (known .3) (known .4) (known .5) (known .6) (read .record-at .ensures),
     )
 
 returns : tie.Need-returns
 returns c =
     let answered = c .before in
-    let read = answered .before .before .before .before in
+    let read = answered .before .before .before .before .before .before in
     λ p symbols d s fits here none. refuses s fits here none (read .record-at .ensures) (answered .arc-from .ensures) (c .if1 .taken)
 
 returns-2 : tie.Need-returns-2
 returns-2 c =
     let answered = c .before in
-    let read = answered .before .before .before .before in
+    let read = answered .before .before .before .before .before .before in
     λ p symbols d s fits here none. passes s fits here none (read .record-at .ensures) (answered .arc-from .ensures) (c .if1 .left)
 
 pub unweighted-spec : {M : Type 1} → statement M
 unweighted-spec =
     tie.close
     (tie.spec
-    (λ c. omega (arith, next-within (c .before .before .before .before .before)))
-    (λ c. omega (arith, next-within (c .before .before .before .before .before)))
-    (λ c κs. omega (arith, next-within (c .before .before .before .before .before)))
+    (λ c. omega (arith, next-within (c .before .before .before)))
+    (λ c. omega (arith, next-within (c .before .before .before)))
+    (λ c κs. omega (arith, next-within (c .before .before .before)))
     (λ c. search needs)
     (λ c. search needs)
     (λ c. search needs)
     (λ c. search needs)
     (λ c. omega (arith, its-rule (c .before .before)))
-    (λ c. omega (arith, c .shared-slice-known6 .given (2 * c .before .before .record-at .result .a + 1)))
+    (λ c. omega (arith, c .shared-slice-known4 .given (2 * c .before .before .record-at .result .a + 1)))
     (λ c. search needs)
-    (λ c. omega (arith, c .before .shared-slice-known6 .given (2 * c .before .before .before .record-at .result .a + 1)))
+    (λ c. omega (arith, c .before .shared-slice-known4 .given (2 * c .before .before .before .record-at .result .a + 1)))
     requires
     returns
-    (λ c. omega (arith, next-within (start (c .before .before .before .before .before))))
+    (λ c. omega (arith, next-within (start (c .before .before .before .before .before .before .before))))
     returns-2)

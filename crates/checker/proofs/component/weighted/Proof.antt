@@ -2,8 +2,8 @@
 -- others the table is filled anew and all rules are judged by it.
 use Prim.Native.Nat.{_/_, _≤_, _<_}
 use native.Mathlib.Omega.{arith}
-use borrow.Author.Needs.{needs}
 use lib.ListN.{length}
+use mathlib.Core.List.{[]}
 use Rattle.weights.specs.declared.Verdict.the-variants.{Holds}
 use Rattle.checker.specs.Working.{rules-verdict}
 use Rattle.checker.proofs.Verdicts.{not-over}
@@ -12,8 +12,8 @@ use Rattle.checker.proofs.Known.{only-weighting, small, weights-there, 
 use Rattle.checker.proofs.component.weighted.Statement.{statement}
 use Rattle.checker.proofs.component.weighted.Tie as tie
 
-abbrev start : tie.After-shared-slice-known5 → tie.Start
-start c = c .before .before .before .before .before .before .before
+abbrev start : tie.After-shared-slice-known3 → tie.Start
+start c = c .before .before .before
 
 -- What the contract asks for is `known`: a system, its symbols, a component of it; that it is stored, that the component fits, where
 -- it stands, what is known of the rules, that it has one weighting, and its count of pairs.
@@ -25,7 +25,7 @@ small-there c =
 -- under the weights before
 judge-marked-requires : tie.Need-judge-marked-requires
 judge-marked-requires c κs =
-    let same = c .before .before in
+    let same = c .before in
     let s = start (same .before .before) in
     let known = s .pre .4 in
     let only = only-weighting (known .2 .weightings) (known .7) in
@@ -36,7 +36,6 @@ judge-marked-requires c κs =
       s .pre .1,
       s .pre .2,
       s .pre .3,
-      held .kept .long,
       (
         known .0,
         known .1,
@@ -53,10 +52,10 @@ judge-marked-requires c κs =
 returns : tie.Need-returns
 unfolding rules-verdict
 returns c =
-    let called = c .before .before in
-    let same = called .before .before .before in
+    let called = c .judge-marked .ensures in
+    let same = c .before .before in
     let told = same .before .same-weights .ensures (same .if1 .taken) in (
-      called .judge-marked .ensures .0,
+      called .0,
       λ p symbols d s fits here known one long.
           let only = only-weighting (d .weightings) one in
           let there = weights-there fits here (only .1) long in
@@ -66,8 +65,8 @@ returns c =
           let rules = still-hold held (run .same) (only .0 .marked) in
           let marked = marked-there fits here (only .1) long (run .passed) in (
             judged fits here (only .1) long (run .passed) rules _
-                (called .judge-marked .ensures .1 p symbols (d .pairs) (only .0 .weights) (only .0 .marked) s (fits .are-pairs) (pairs-here _ _ _ here) long marked table (λ h. not-over Holds _ _ rules h)),
-            known-now fits here (only .1) long (run .passed) _ table,
+                (called .2 p symbols (d .pairs) (only .0 .weights) (only .0 .marked) s (fits .are-pairs) (pairs-here _ _ _ here) long marked table (λ h. not-over Holds _ _ rules h)),
+            known-now fits here (only .1) long (run .passed) _ (called .1 (only .0 .weights) table),
           ),
     )
 
@@ -86,25 +85,21 @@ refill-requires c κs =
 
 judge-rules-requires : tie.Need-judge-rules-requires
 judge-rules-requires c κs =
+    let s = start (c .before .before .before .before .before) in
+    let known = s .pre .4 in
+    (s .pre .2, (known .0, known .1, known .3))
+
+judge-marked-requires-2 : tie.Need-judge-marked-requires-2
+judge-marked-requires-2 c κs =
     let filled = c .before .before .before in
     let s = start (filled .before .before .before .before) in
     let known = s .pre .4 in
     let only = only-weighting (known .2 .weightings) (known .7) in
-    let table = filled .refill .ensures (only .0 .weights) (weights-there (known .4) (known .5) (only .1) (known .8)) in
-    (s .pre .2, table .1 .long, (known .0, known .1, known .3))
-
-judge-marked-requires-2 : tie.Need-judge-marked-requires-2
-judge-marked-requires-2 c κs =
-    let filled = c .before .before .before .before .before .before in
-    let s = start (filled .before .before .before .before) in
-    let known = s .pre .4 in
-    let only = only-weighting (known .2 .weightings) (known .7) in
-    let table = filled .refill .ensures (only .0 .weights) (weights-there (known .4) (known .5) (only .1) (known .8)) in (
+    let table = filled .refill .ensures .0 (only .0 .weights) (weights-there (known .4) (known .5) (only .1) (known .8)) in (
       s .pre .0,
       s .pre .1,
       s .pre .2,
-      s .pre .3,
-      table .1 .long,
+      filled .refill .ensures .1 [] (s .pre .3),
       (
         known .0,
         known .1,
@@ -121,18 +116,18 @@ judge-marked-requires-2 c κs =
 returns-2 : tie.Need-returns-2
 unfolding rules-verdict
 returns-2 c =
-    let called = c .before .before in
-    let rules-judged = called .before .before .before in
-    let filled = rules-judged .before .before .before .before in (
-      called .judge-marked2 .ensures .0,
+    let called = c .judge-marked2 .ensures in
+    let rules-judged = c .before .before in
+    let filled = rules-judged .before .before in (
+      called .0,
       λ p symbols d s fits here known one long.
           let only = only-weighting (d .weightings) one in
-          let table = filled .refill .ensures (only .0 .weights) (weights-there fits here (only .1) long) in
+          let table = filled .refill .ensures .0 (only .0 .weights) (weights-there fits here (only .1) long) in
           let rules = rules-judged .judge-rules .ensures p symbols (only .0 .weights) (only .0 .marked) s (table .1) in
           let marked = marked-there fits here (only .1) long (table .0) in (
             judged fits here (only .1) long (table .0) rules _
-                (called .judge-marked2 .ensures .1 p symbols (d .pairs) (only .0 .weights) (only .0 .marked) s (fits .are-pairs) (pairs-here _ _ _ here) long marked (table .1) (λ h. not-over _ _ _ rules h)),
-            known-now fits here (only .1) long (table .0) _ (table .1),
+                (called .2 p symbols (d .pairs) (only .0 .weights) (only .0 .marked) s (fits .are-pairs) (pairs-here _ _ _ here) long marked (table .1) (λ h. not-over _ _ _ rules h)),
+            known-now fits here (only .1) long (table .0) _ (called .1 (only .0 .weights) (table .1)),
           ),
     )
 
@@ -145,13 +140,9 @@ weighted-spec =
     (λ c κs. omega (arith, start c .pre .4 .6 .behind))
     (λ c. omega (arith, small-there (start (c .before .before))))
     judge-marked-requires
-    (λ c. search needs)
-    (λ c. search needs)
     returns
     refill-requires
     judge-rules-requires
-    (λ c. omega (arith, small-there (start (c .before .before .before .before .before .before .before .before))))
+    (λ c. omega (arith, small-there (start (c .before .before .before .before .before .before))))
     judge-marked-requires-2
-    (λ c. search needs)
-    (λ c. search needs)
     returns-2)

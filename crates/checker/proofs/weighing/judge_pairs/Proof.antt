@@ -1,14 +1,14 @@
 -- `checker::weighing::judge_pairs` meets its contract. The loop's invariant: the pairs from pair i on are left to judge,
 -- and what is known of the left side of rule `last` is kept.
-use mathlib.Core.Path.{_≡_, refl, sym, ap, _∙_}
-use mathlib.Core.Bool.{Bool, true, false, false≢true}
+use mathlib.Core.Path.{_≡_, refl, sym, _∙_}
+use mathlib.Core.Bool.{Bool, true, false}
 use mathlib.Core.Logic.{⊎-elim}
 use mathlib.Core.List.{List, [], _∷_}
 use Prim.Native.Nat.{ℕ, _+_, _*_, _-_, _/_, _≤_, _<_}
 use native.Mathlib.Numerals.{add-one}
 use native.Mathlib.Omega.{arith}
 use borrow.Author.Needs.{needs}
-use lib.ListN.{length, getD, drop, replicate, drop-of-length-le}
+use lib.ListN.{length, getD, drop, drop-of-length-le}
 use lib.Seq.{drop-cons}
 use Rattle.rewriting.specs.Terms.{System}
 use Rattle.rewriting.specs.Pairs.{Pair, is-pair, arguments}
@@ -16,17 +16,17 @@ use Rattle.records.specs.declared.Record.{Record}
 use Rattle.records.specs.Records.{record-at}
 use Rattle.pack_reader.specs.Stored.{Stored}
 use Rattle.pairs.specs.Listing.{a-pair, pair-record}
-use Rattle.weights.specs.declared.sparse.Gathered.{Gathered}
 use Rattle.weights.specs.declared.Verdict.{Verdict}
 use Rattle.weights.specs.declared.Verdict.the-variants.{Over, Fails, Holds}
 use Rattle.polynomials.specs.Polynomials.{Weight, Weighting}
 use Rattle.polynomials.specs.Limit.{over}
 use Rattle.polynomials.specs.Judging.{any, rule-over, call-over, call-falls}
-use Rattle.weights.specs.Working.{Table-is, Applied, Left-known, verdict}
+use Rattle.weights.specs.Table.{Table-is, Marked-is}
+use Rattle.weights.specs.Working.{Applied, Side-summed, verdict}
 use Rattle.judging.specs.Judge.{call, calls}
 use Rattle.partition.specs.Working.{All-pairs}
 use Rattle.checker.specs.Working.{Pairs-at}
-use Rattle.checker.proofs.FromStore.{weighting, pair-in-rules, left-applied, right-applied, call-answer}
+use Rattle.checker.proofs.FromStore.{weighting, sides-rise, pair-in-rules, right-fits, left-applied, right-applied, call-answer}
 use Rattle.checker.proofs.Positions.{pair-here}
 use Rattle.checker.proofs.Verdicts.{To-judge, Found, calls-hold, calls-asked, none-judged, some-failed, none-failed, one-over, one-fails, one-holds}
 use Rattle.checker.proofs.weighing.judge_pairs.Statement.{statement}
@@ -36,34 +36,27 @@ use Rattle.checker.proofs.weighing.judge_pairs.Tie as tie
 abbrev Pairs-left : System → List Pair → (weights marked : List Weight) → (i : ℕ) → (failed : Bool) → Type 0
 Pairs-left p qs ws vs i failed = To-judge (call-over (weighting ws vs)) (calls-hold (weighting ws vs)) (calls p qs) (calls p (drop i qs)) failed
 
--- what is known of the left side of a rule
-record Left-kept (arities nodes marked table starts : List ℕ) (rule : ℕ) (known : Gathered) (sums : List ℕ) : Type 0 where
-  long : length sums ≡ 16
-  is-known : Left-known arities nodes marked table (getD starts (2 * rule) 0) (known .through) (known .constant) sums
-
--- nothing, where the quick way did not go through
-none-kept : (ar ns vs ts ss : List ℕ) (rule : ℕ) (known : Gathered) → known .through ≡ false → Left-kept ar ns vs ts ss rule known (replicate 16 0)
-unfolding Left-known
-none-kept ar ns vs ts ss rule known e =
-    record { long = refl; is-known = λ through. absurd (false≢true (sym e ∙ through)) }
+-- the sums are those of the left side of a rule; none is yet where it is 65,536
+record Left-kept (arities nodes table starts : List ℕ) (rule : ℕ) (sums : List ℕ) : Type 0 where
+  long : length sums ≡ 17
+  is-known :
+      (rule ≡ 65536 → ⊥) → Side-summed arities nodes table (getD starts (2 * rule) 0) (getD starts (2 * rule + 1) 0 - getD starts (2 * rule) 0) true sums
 
 -- the same of equal ones
 kept-as :
-    (ar ns vs ts ss : List ℕ) {rule rule' : ℕ} {known known' : Gathered} {sums sums' : List ℕ} → rule ≡ rule' → known ≡ known' → sums ≡ sums' →
-    Left-kept ar ns vs ts ss rule' known' sums' → Left-kept ar ns vs ts ss rule known sums
-kept-as ar ns vs ts ss e f g k = rw (e, f, g) k
+    (ar ns ts ss : List ℕ) {rule rule' : ℕ} {sums sums' : List ℕ} → rule ≡ rule' → sums ≡ sums' → Left-kept ar ns ts ss rule' sums' → Left-kept ar ns ts ss rule sums
+kept-as ar ns ts ss e f k = rw (e, f) k
 
 abbrev Inv-loop : tie.InvT-loop
-Inv-loop certificate from count arities marked table starts nodes marks rules known₀ sums₀ factors₀ last₀ failed₀ i₀ known sums factors last failed i =
+Inv-loop certificate from count arities table starts nodes marks rules sums₀ last₀ failed₀ i₀ sums last failed i =
     (i ≤ count)
-    × Left-kept arities nodes marked table starts last known sums
+    × Left-kept arities nodes table starts last sums
     × ((p : System) (symbols : ℕ) (qs : List Pair) (ws vs : List Weight) → Stored p symbols rules arities starts nodes marks → All-pairs p qs →
-    Pairs-at certificate from qs → length qs ≡ count → Table-is table ws → Table-is marked vs →
+    Pairs-at certificate from qs → length qs ≡ count → Table-is table ws → Marked-is table vs →
     any (rule-over (weighting ws vs)) (p .rules) ≡ false → Pairs-left p qs ws vs i failed)
-    × (length factors ≡ 32)
 
 abbrev μ-loop : tie.MeasureT-loop
-μ-loop certificate from count arities marked table starts nodes marks rules known₀ sums₀ factors₀ last₀ failed₀ i₀ known sums factors last failed i = count - i
+μ-loop certificate from count arities table starts nodes marks rules sums₀ last₀ failed₀ i₀ sums last failed i = count - i
 
 -- the record of pair i
 module _ {cert : List ℕ} {from : ℕ} {qs : List Pair} (there : Pairs-at cert from qs) (i : ℕ) (h : i < length qs) where
@@ -86,18 +79,24 @@ module _ {cert : List ℕ} {from : ℕ} {qs : List Pair} (there : Pairs-at cert 
       unfolding pair-record
       in-rules = rw reads-pair (pair-in-rules s q is)
 
-      left-there : Applied ar ns (getD ss (2 * r .a) 0)
+      left-there : Applied ar ns (getD ss (2 * r .a) 0) (getD ss (2 * r .a + 1) 0 - getD ss (2 * r .a) 0)
       unfolding pair-record
       left-there = rw reads-pair (left-applied s q is)
 
-      right-there : Applied ar ns (getD ss (2 * r .a + 1) 0 + r .b)
+      right-there : Applied ar ns (getD ss (2 * r .a + 1) 0 + r .b) (getD ss (2 * r .a + 2) 0 - (getD ss (2 * r .a + 1) 0 + r .b))
       unfolding pair-record
       right-there = rw reads-pair (right-applied s q is)
+
+      -- where they begin and end
+      sides-there : (getD ss (2 * r .a) 0 ≤ getD ss (2 * r .a + 1) 0) × (getD ss (2 * r .a + 1) 0 + r .b ≤ getD ss (2 * r .a + 2) 0)
+      unfolding pair-record
+      sides-there = rw reads-pair (sides-rise s (q .at-rule) (pair-in-rules s q is) .0, right-fits s q is)
 
       -- the pair is judged
       module _ (ws vs : List Weight) (none : any (rule-over (weighting ws vs)) (p .rules) ≡ false) {x : Verdict}
           (answer :
-          (l : Applied ar ns (getD ss (2 * r .a) 0)) (m : Applied ar ns (getD ss (2 * r .a + 1) 0 + r .b)) →
+          (l : Applied ar ns (getD ss (2 * r .a) 0) (getD ss (2 * r .a + 1) 0 - getD ss (2 * r .a) 0))
+          (m : Applied ar ns (getD ss (2 * r .a + 1) 0 + r .b) (getD ss (2 * r .a + 2) 0 - (getD ss (2 * r .a + 1) 0 + r .b))) →
           over ws (arguments (l .side .term)) ≡ false → over ws (arguments (m .side .term)) ≡ false →
           x ≡ verdict (call-over (weighting ws vs) (record { left = l .side .term; right = m .side .term })) (call-falls (weighting ws vs) (record { left = l .side .term; right = m .side .term }))) where
         abbrev w : Weighting
@@ -134,120 +133,108 @@ module _ (p : System) (qs : List Pair) (ws vs : List Weight) (i : ℕ) {failed :
   holds = none-failed (calls-asked (weighting ws vs)) none-left
 
 abbrev start : tie.In-loop Inv-loop μ-loop → tie.Start Inv-loop μ-loop
-start turn = turn .before .before .before .before .before .before .before .before .before
+start turn = turn .before .before .before .before .before
 
 -- What the contract asks for is `known`: a system, its symbols, pairs; that the system is stored, that they are pairs of it, where they
 -- stand, and their count. In a turn there is a pair i of them; its record is there, and names a rule.
-there-is : (turn : tie.In-loop Inv-loop μ-loop) → turn .before .loop .i < length (start turn .pre .5 .2)
-there-is turn = omega (arith, start turn .pre .5 .6, turn .loop-test .taken)
+there-is : (turn : tie.In-loop Inv-loop μ-loop) → turn .before .loop .i < length (start turn .pre .3 .2)
+there-is turn = omega (arith, start turn .pre .3 .6, turn .loop-test .taken)
 
 its-record : (turn : tie.In-loop Inv-loop μ-loop) → start turn .args .from + turn .before .loop .i < length (start turn .args .certificate .now) / 8
-its-record turn = within (start turn .pre .5 .5) (turn .before .loop .i) (there-is turn)
+its-record turn = within (start turn .pre .3 .5) (turn .before .loop .i) (there-is turn)
 
-its-rule : (c : tie.After-record-at Inv-loop μ-loop) → c .record-at .result .a < start (c .before) .args .rules
+its-rule : (c : tie.After-record-at Inv-loop μ-loop) → (c .record-at .result .a < start (c .before) .args .rules) × (start (c .before) .args .rules ≤ 64) × (length (start (c .before) .args .starts .now) ≡ 129)
 its-rule c =
     let turn = c .before in
-    let known = start turn .pre .5 in
-    in-rules (known .5) (turn .before .loop .i) (there-is turn) (c .record-at .ensures) (known .3) (known .4)
+    let pre = start turn .pre in
+    let known = pre .3 in
+    (in-rules (known .5) (turn .before .loop .i) (there-is turn) (c .record-at .ensures) (known .3) (known .4), pre .2 .laid .few, pre .2 .laid .starts-long)
 
-left-requires : tie.Need-left-side-requires Inv-loop μ-loop
+its-sides :
+    (c : tie.After-record-at Inv-loop μ-loop) →
+    let ss = start (c .before) .args .starts .now in
+    let r = c .record-at .result in
+    (getD ss (2 * r .a) 0 ≤ getD ss (2 * r .a + 1) 0) × (getD ss (2 * r .a + 1) 0 + r .b ≤ getD ss (2 * r .a + 2) 0)
+its-sides c =
+    let turn = c .before in
+    let known = start turn .pre .3 in
+    sides-there (known .5) (turn .before .loop .i) (there-is turn) (c .record-at .ensures) (known .3) (known .4)
+
+left-requires : tie.Need-marked-side-requires Inv-loop μ-loop
 left-requires c κs =
     let read = c .before .before .before .before .before .before .before in
     let turn = read .before in
-    let l = turn .before .loop in
     let pre = start turn .pre in
-    let known = pre .5 in (
-      pre .2 .arities-long,
-      pre .3,
-      pre .4,
-      pre .2 .nodes-long,
-      l .inv .1 .long,
-      left-there (known .5) (l .i) (there-is turn) (read .record-at .ensures) (known .3) (known .4),
-      l .inv .3,
-    )
+    let known = pre .3 in
+    (pre .2 .nodes-long, left-there (known .5) (turn .before .loop .i) (there-is turn) (read .record-at .ensures) (known .3) (known .4), refl)
 
 -- after the branch the left side of the pair's rule is kept: it was worked out, or it was kept
 abbrev read-before : tie.Joined1 Inv-loop μ-loop → tie.After-record-at Inv-loop μ-loop
-read-before c = c .before .before .before .before .before
+read-before c = c .before .before .before .before .before .before
 
 last-is : (c : tie.Joined1 Inv-loop μ-loop) → c .if1 .last ≡ read-before c .record-at .result .a
-last-is c = ⊎-elim (λ z. z .9) (λ z. z .4 ∙ sym (z .0 .left)) (c .if1 .came)
+last-is c = ⊎-elim (λ z. z .4) (λ z. z .2 ∙ sym (z .0 .left)) (c .if1 .came)
 
 left-kept :
     (c : tie.Joined1 Inv-loop μ-loop) → let a = start (read-before c .before) .args in
-    Left-kept (a .arities .now) (a .nodes .now) (a .marked .now) (a .table .now) (a .starts .now) (read-before c .record-at .result .a) (c .if1 .known) (c .if1 .sums)
+    Left-kept (a .arities .now) (a .nodes .now) (a .table .now) (a .starts .now) (read-before c .record-at .result .a) (c .if1 .sums)
 left-kept c =
     let turn = read-before c .before in
     let a = start turn .args in
     ⊎-elim
-    (λ z. kept-as _ _ _ _ (a .starts .now) refl (z .6) (z .7) (record { long = z .3 .ensures .0; is-known = z .3 .ensures .1 }))
-    (λ z. kept-as _ _ _ _ _ (z .0 .left) (z .1) (z .2) (turn .before .loop .inv .1))
+    (λ z. kept-as _ _ _ (a .starts .now) refl (z .3) (record { long = z .2 .ensures .1; is-known = λ _. z .2 .ensures .0 }))
+    (λ z. kept-as _ _ _ _ (z .0 .left) (z .1) (turn .before .loop .inv .1))
     (c .if1 .came)
 
--- and the lent slice is as long as it was
-lent-long : (c : tie.Joined1 Inv-loop μ-loop) → length (c .if1 .factors) ≡ 32
-lent-long c =
-    let inv = read-before c .before .before .loop .inv in
-    ⊎-elim
-    (λ z. ap length (z .8) ∙ z .3 .kept .1 .1 .1 .1 .1 .1 .0 ∙ inv .3)
-    (λ z. ap length (z .3) ∙ inv .3)
-    (c .if1 .came)
+-- it is that of a rule
+left-known :
+    (c : tie.Joined1 Inv-loop μ-loop) → let a = start (read-before c .before) .args in let r = read-before c .record-at .result .a in
+    Side-summed (a .arities .now) (a .nodes .now) (a .table .now) (getD (a .starts .now) (2 * r) 0) (getD (a .starts .now) (2 * r + 1) 0 - getD (a .starts .now) (2 * r) 0) true (c .if1 .sums)
+left-known c = left-kept c .is-known (λ e. let h = its-rule (read-before c) in absurd (omega arith))
 
 requires : tie.Need-judge-call-requires Inv-loop μ-loop
 requires c κs =
-    let joined = c .before .before in
+    let joined = c .before in
     let read = read-before joined in
     let turn = read .before in
-    let i = turn .before .loop .i in
     let pre = start turn .pre in
-    let known = pre .5 in
-    let kept = left-kept joined in (
-      pre .2 .arities-long,
-      pre .3,
-      pre .4,
-      pre .2 .nodes-long,
-      left-there (known .5) i (there-is turn) (read .record-at .ensures) (known .3) (known .4),
-      right-there (known .5) i (there-is turn) (read .record-at .ensures) (known .3) (known .4),
-      kept .long,
-      kept .is-known,
-      lent-long joined,
-    )
+    let known = pre .3 in
+    (pre .2 .nodes-long, right-there (known .5) (turn .before .loop .i) (there-is turn) (read .record-at .ensures) (known .3) (known .4), left-kept joined .long)
 
 returns : tie.Need-returns Inv-loop μ-loop
 returns c =
-    let called = c .before .before .before in
-    let read = read-before (called .before .before .before) in
+    let called = c .before .before in
+    let joined = called .before .before in
+    let read = read-before joined in
     let turn = read .before in
     let l = turn .before .loop in
     λ p symbols qs ws vs s are there long t u none.
     pair-over-limit there (l .i) (omega (arith, turn .loop-test .taken)) (read .record-at .ensures) s are ws vs none
-    (λ a b o m. called .judge-call .ensures a b ws vs t u o m)
+    (λ a b o m. called .judge-call .ensures _ _ a b ws vs (left-known joined) t u (λ _. (o, m)))
     (l .inv .2 p symbols qs ws vs s are there long t u none)
     (c .enum-told .given .1)
 
 add-i : tie.Need-add-i Inv-loop μ-loop
 add-i c =
-    let turn = read-before (c .before .before .before .before .before) .before in
+    let turn = read-before (c .before .before .before) .before in
     record { fits = omega (arith, turn .loop-test .taken, start turn .fits .count .fits) }
 
 again : tie.Need-loop-again Inv-loop μ-loop
 again c =
-    let called = c .before .before in
-    let joined = called .before .before .before in
-    let kept = called .judge-call .kept .1 .1 .1 .1 .1 .1 .1 .1 in
+    let called = c .before in
+    let joined = called .before .before in
     let read = read-before joined in
     let turn = read .before in
     let l = turn .before .loop in (
       omega arith,
-      kept-as _ _ _ _ _ (last-is joined) refl refl (left-kept joined),
+      kept-as _ _ _ _ (last-is joined) refl (left-kept joined),
       λ p symbols qs ws vs s are there long t u none.
           let h : l .i < length qs = omega (arith, turn .loop-test .taken) in
           let left = l .inv .2 p symbols qs ws vs s are there long t u none in
           ⊎-elim
-          (λ z. rw (z .2) (pair-fails there (l .i) h (read .record-at .ensures) s are ws vs none (λ a b o m. called .judge-call .ensures a b ws vs t u o m) left (z .1 .given .1)))
-          (λ z. rw (z .2) (pair-holds there (l .i) h (read .record-at .ensures) s are ws vs none (λ a b o m. called .judge-call .ensures a b ws vs t u o m) left (z .1 .given .1)))
+          (λ z. rw (z .2) (pair-fails there (l .i) h (read .record-at .ensures) s are ws vs none (λ a b o m. called .judge-call .ensures _ _ a b ws vs (left-known joined) t u (λ _. (o, m))) left (z .1 .given .1)))
+          (λ z. rw (z .2) (pair-holds there (l .i) h (read .record-at .ensures) s are ws vs none (λ a b o m. called .judge-call .ensures _ _ a b ws vs (left-known joined) t u (λ _. (o, m))) left (z .1 .given .1)))
           (c .match .came),
-      kept .0 ∙ lent-long joined,
     )
 
 pub judge-pairs-spec : {M : Type 1} → statement M
@@ -256,7 +243,7 @@ judge-pairs-spec =
     (tie.spec
     Inv-loop
     μ-loop
-    (λ c. (omega arith, none-kept _ _ _ _ _ _ _ refl, λ p symbols qs ws vs s are there long t u none. none-judged _ _ _, refl))
+    (λ c. (omega arith, record { long = refl; is-known = λ h. absurd (h refl) }, λ p symbols qs ws vs s are there long t u none. none-judged _ _ _))
     (λ c. omega (arith, its-record c))
     (λ c. omega (arith, its-record c))
     (λ c κs. omega (arith, its-record c))
@@ -264,19 +251,22 @@ judge-pairs-spec =
     (λ c. search needs)
     (λ c. search needs)
     (λ c. omega (arith, its-rule (c .before .before)))
-    (λ c. omega (arith, c .shared-slice-known8 .given (2 * c .before .before .record-at .result .a)))
+    (λ c. omega (arith, c .shared-slice-known4 .given (2 * c .before .before .record-at .result .a)))
     (λ c. omega (arith, its-rule (c .before .before)))
     (λ c. omega (arith, its-rule (c .before .before)))
     (λ c. omega (arith, its-rule (c .before .before)))
     (λ c. omega (arith, its-rule (c .before .before .before)))
-    (λ c. omega (arith, c .shared-slice-known9 .given (2 * c .before .before .before .record-at .result .a + 1)))
+    (λ c. omega (arith, c .shared-slice-known5 .given (2 * c .before .before .before .record-at .result .a + 1)))
+    (λ c. omega (arith, its-rule (c .before .before .before)))
+    (λ c. omega (arith, its-rule (c .before .before .before)))
+    (λ c. omega (arith, its-rule (c .before .before .before)))
+    (λ c. omega (arith, its-rule (c .before .before .before .before)))
+    (λ c. omega (arith, c .shared-slice-known6 .given (2 * c .before .before .before .before .record-at .result .a + 2)))
     (λ c. search needs)
-    (λ c. omega (arith, c .before .shared-slice-known9 .given (2 * c .before .before .before .before .record-at .result .a + 1)))
-    (λ c. search needs)
-    (λ c. search needs)
+    (λ c. omega (arith, c .before .before .shared-slice-known5 .given (2 * c .before .before .before .before .before .record-at .result .a + 1)))
+    (λ c. its-sides (c .before .before .before .before .before .before) .0)
     left-requires
-    (λ c. search (needs, left-kept (c .before) .long))
-    (λ c. search (needs, lent-long (c .before .before)))
+    (λ c. its-sides (read-before c) .1)
     requires
     (λ c. search needs)
     returns

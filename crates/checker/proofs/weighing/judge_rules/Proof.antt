@@ -1,5 +1,5 @@
 -- `checker::weighing::judge_rules` meets its contract. The loop's invariant: the rules from rule i on are left to judge.
-use mathlib.Core.Path.{_≡_, refl, _∙_}
+use mathlib.Core.Path.{_≡_}
 use mathlib.Core.Bool.{Bool, true, false, not}
 use mathlib.Core.Logic.{⊎-elim}
 use mathlib.Core.List.{List, [], _∷_}
@@ -7,17 +7,17 @@ use Prim.Native.Nat.{ℕ, _+_, _*_, _-_, _≤_, _<_}
 use native.Mathlib.Numerals.{add-one}
 use native.Mathlib.Omega.{arith}
 use borrow.Author.Needs.{needs}
-use lib.ListN.{length, getD, drop, drop-of-length-le}
+use lib.ListN.{getD, drop, drop-of-length-le}
 use lib.Seq.{drop-cons}
 use Rattle.rewriting.specs.Terms.{System, rule, no-rule}
-use Rattle.terms.specs.Sides.{flat}
 use Rattle.pack_reader.specs.Stored.{Stored}
 use Rattle.weights.specs.declared.Verdict.{Verdict}
 use Rattle.weights.specs.declared.Verdict.the-variants.{Over, Fails, Holds}
 use Rattle.polynomials.specs.Polynomials.{Weight, Weighting}
 use Rattle.polynomials.specs.Judging.{rule-over, rule-rises}
-use Rattle.weights.specs.Working.{Table-is, Weighable, verdict}
-use Rattle.checker.proofs.FromStore.{weighting, left-weighable, right-weighable, left-ends, right-ends, rule-answer}
+use Rattle.weights.specs.Table.{Table-is}
+use Rattle.weights.specs.Working.{Weighable, verdict}
+use Rattle.checker.proofs.FromStore.{weighting, sides-rise, left-weighable, right-weighable, rule-answer}
 use Rattle.checker.proofs.Verdicts.{To-judge, Found, rules-hold, rules-asked, none-judged, some-failed, none-failed, one-over, one-fails, one-holds}
 use Rattle.checker.proofs.weighing.judge_rules.Statement.{statement}
 use Rattle.checker.proofs.weighing.judge_rules.Tie as tie
@@ -27,15 +27,12 @@ abbrev Rules-left : System → (weights marked : List Weight) → (i : ℕ) → 
 Rules-left p ws vs i failed = To-judge (rule-over (weighting ws vs)) (rules-hold (weighting ws vs)) (p .rules) (drop i (p .rules)) failed
 
 abbrev Inv-loop : tie.InvT-loop
-Inv-loop arities table starts nodes marks rules factors₀ bounds₀ spans₀ failed₀ i₀ factors bounds spans failed i =
+Inv-loop arities table starts nodes marks rules failed₀ i₀ failed i =
     (i ≤ rules)
     × ((p : System) (symbols : ℕ) (ws vs : List Weight) → Stored p symbols rules arities starts nodes marks → Table-is table ws → Rules-left p ws vs i failed)
-    × (length factors ≡ 32)
-    × (length bounds ≡ 32)
-    × (length spans ≡ 32)
 
 abbrev μ-loop : tie.MeasureT-loop
-μ-loop arities table starts nodes marks rules factors₀ bounds₀ spans₀ failed₀ i₀ factors bounds spans failed i = rules - i
+μ-loop arities table starts nodes marks rules failed₀ i₀ failed i = rules - i
 
 module _
     {p : System} {symbols rules : ℕ} {ar ss ns ms : List ℕ} (s : Stored p symbols rules ar ss ns ms) (ws vs : List Weight) (i : ℕ) {failed : Bool}
@@ -57,8 +54,8 @@ module _
   -- rule i is judged
   module _ (h : i < rules) {x : Verdict}
       (answer :
-      (l : Weighable ar ns (getD ss (2 * i) 0) 32) (m : Weighable ar ns (getD ss (2 * i + 1) 0) 32) →
-      getD ss (2 * i + 1) 0 ≡ getD ss (2 * i) 0 + length (flat (l .term)) → getD ss (2 * i + 2) 0 ≡ getD ss (2 * i + 1) 0 + length (flat (m .term)) →
+      (l : Weighable ar ns (getD ss (2 * i) 0) (getD ss (2 * i + 1) 0 - getD ss (2 * i) 0))
+      (m : Weighable ar ns (getD ss (2 * i + 1) 0) (getD ss (2 * i + 2) 0 - getD ss (2 * i + 1) 0)) →
       x ≡ verdict (rule-over w (record { left = l .term; right = m .term })) (not (rule-rises w (record { left = l .term; right = m .term })))) where
     rule-left : To-judge (rule-over w) (rules-hold w) (p .rules) (rule p i ∷ drop (i + 1) (p .rules)) failed
     unfolding rule
@@ -78,48 +75,34 @@ module _
 
 requires : tie.Need-judge-rule-requires Inv-loop μ-loop
 requires c κs =
-    let turn = c .before .before .before .before .before .before in
-    let l = turn .before .loop in
-    let i = l .i in
-    let start = turn .before .before .before .before .before .before .before in
-    let kept = start .pre .0 in
-    let s = start .pre .2 .2 in
-    let h = turn .loop-test .taken in (
-      kept .arities-long,
-      start .pre .1,
-      kept .nodes-long,
-      (left-weighable s i h, left-ends s i h),
-      (right-weighable s i h, right-ends s i h),
-      l .inv .2,
-      l .inv .3,
-      l .inv .4,
-    )
+    let turn = c .before .before .before in
+    let i = turn .before .loop .i in
+    let start = turn .before .before .before .before in
+    let s = start .pre .1 .2 in
+    let h = turn .loop-test .taken in
+    (start .pre .0 .nodes-long, sides-rise s i h .0, sides-rise s i h .1, left-weighable s i h, right-weighable s i h)
 
 returns : tie.Need-returns Inv-loop μ-loop
 returns c =
-    let called = c .before .before .before .before .before in
-    let turn = called .before .before .before .before .before .before .before in
+    let called = c .before .before in
+    let turn = called .before .before .before .before in
     let l = turn .before .loop in
     λ p symbols ws vs s t.
     rule-over-limit s ws vs (l .i) (l .inv .1 p symbols ws vs s t) (turn .loop-test .taken)
-    (λ a b e f. called .judge-rule .ensures a b ws vs e f t)
+    (λ a b. called .judge-rule .ensures a b ws vs t)
     (c .enum-told .given .1)
 
 again : tie.Need-loop-again Inv-loop μ-loop
 again c =
-    let called = c .before .before .before .before in
-    let turn = called .before .before .before .before .before .before .before in
-    let l = turn .before .loop in
-    let kept = called .judge-rule .kept .1 .1 .1 .1 .1 .1 in (
+    let called = c .before in
+    let turn = called .before .before .before .before in
+    let l = turn .before .loop in (
       omega arith,
       λ p symbols ws vs s t.
           ⊎-elim
-          (λ z. rw (z .2) (rule-fails s ws vs (l .i) (l .inv .1 p symbols ws vs s t) (turn .loop-test .taken) (λ a b e f. called .judge-rule .ensures a b ws vs e f t) (z .1 .given .1)))
-          (λ z. rw (z .2) (rule-holds s ws vs (l .i) (l .inv .1 p symbols ws vs s t) (turn .loop-test .taken) (λ a b e f. called .judge-rule .ensures a b ws vs e f t) (z .1 .given .1)))
+          (λ z. rw (z .2) (rule-fails s ws vs (l .i) (l .inv .1 p symbols ws vs s t) (turn .loop-test .taken) (λ a b. called .judge-rule .ensures a b ws vs t) (z .1 .given .1)))
+          (λ z. rw (z .2) (rule-holds s ws vs (l .i) (l .inv .1 p symbols ws vs s t) (turn .loop-test .taken) (λ a b. called .judge-rule .ensures a b ws vs t) (z .1 .given .1)))
           (c .match .came),
-      kept .0 ∙ l .inv .2,
-      kept .1 .0 ∙ l .inv .3,
-      kept .1 .1 .0 ∙ l .inv .4,
     )
 
 pub judge-rules-spec : {M : Type 1} → statement M
@@ -128,24 +111,21 @@ judge-rules-spec =
     (tie.spec
     Inv-loop
     μ-loop
-    (λ c. (omega arith, λ p symbols ws vs s t. none-judged _ _ _, refl, refl, refl))
-    (λ c. omega arith)
-    (λ c. omega arith)
-    (λ c. omega arith)
-    (λ c. omega (arith, c .shared-slice-known6 .given (2 * c .before .before .loop .i)))
-    (λ c. omega arith)
-    (λ c. omega arith)
-    (λ c. omega arith)
-    (λ c. omega arith)
-    (λ c. omega (arith, c .shared-slice-known7 .given (2 * c .before .before .before .loop .i + 1)))
-    (λ c. omega arith)
-    (λ c. omega arith)
-    (λ c. omega arith)
-    (λ c. omega arith)
-    (λ c. omega (arith, c .shared-slice-known8 .given (2 * c .before .before .before .before .loop .i + 2)))
-    (λ c. search needs)
-    (λ c. search needs)
-    (λ c. search needs)
+    (λ c. (omega arith, λ p symbols ws vs s t. none-judged _ _ _))
+    (λ c. omega (arith, c .before .before .before .before .pre .0 .laid .few))
+    (λ c. omega (arith, c .before .before .before .before .pre .0 .laid .few))
+    (λ c. omega (arith, c .before .before .before .before .before .pre .0 .laid))
+    (λ c. omega (arith, c .shared-slice-known3 .given (2 * c .before .before .loop .i)))
+    (λ c. omega (arith, c .before .before .before .before .before .pre .0 .laid))
+    (λ c. omega (arith, c .before .before .before .before .before .pre .0 .laid))
+    (λ c. omega (arith, c .before .before .before .before .before .pre .0 .laid))
+    (λ c. omega (arith, c .before .before .before .before .before .before .pre .0 .laid))
+    (λ c. omega (arith, c .shared-slice-known4 .given (2 * c .before .before .before .loop .i + 1)))
+    (λ c. omega (arith, c .before .before .before .before .before .before .pre .0 .laid))
+    (λ c. omega (arith, c .before .before .before .before .before .before .pre .0 .laid))
+    (λ c. omega (arith, c .before .before .before .before .before .before .pre .0 .laid))
+    (λ c. omega (arith, c .before .before .before .before .before .before .before .pre .0 .laid))
+    (λ c. omega (arith, c .shared-slice-known5 .given (2 * c .before .before .before .before .loop .i + 2)))
     requires
     (λ c. search needs)
     returns

@@ -1,40 +1,58 @@
--- `weights::judging::judge_call` meets its contract: both sides are rooted by the weights of the tuple symbols, the left is known, and
--- a right that is not below it is judged by the exact way.
+-- `weights::judging::judge_call` meets its contract.
 use mathlib.Core.Path.{sym, _∙_}
+use mathlib.Core.Bool.{true, false}
 use borrow.Author.Needs.{needs}
-use borrow.Author.Tests.{not-false}
-use Rattle.weights.specs.Working.{Left-known}
+use Rattle.polynomials.specs.Polynomials.{greater}
+use Rattle.weights.specs.Working.{Side-summed, verdict}
 use Rattle.weights.proofs.Working.{as-call}
-use Rattle.weights.proofs.Lower.{below-verdict}
+use Rattle.weights.proofs.Verdicts.{left-over, right-over, by-constants, by-greater}
 use Rattle.weights.proofs.judging.judge_call.Statement.{statement}
 use Rattle.weights.proofs.judging.judge_call.Tie as tie
 
 returns : tie.Need-returns
-returns c = λ l m ws ms x y o p. c .judge-call .ensures l m ws ms x y
+unfolding Side-summed
+returns c = λ there before l m ws ms x t k known.
+    as-call _ _ _ _ _ _ l m ws ms _
+    (left-over ms ws (l .side .term) (m .side .term) _ (x l ws ms t k (λ h. known h .0)) greater (sym (c .before .over .ensures) ∙ c .if1 .taken))
 
 returns-2 : tie.Need-returns-2
-returns-2 c = λ l m ws ms x y o p. c .judge-call2 .ensures l m ws ms x y
+unfolding Side-summed
+returns-2 c = λ there before l m ws ms x t k known.
+    as-call _ _ _ _ _ _ l m ws ms _
+    (right-over ms ws (l .side .term) (m .side .term) _ (x l ws ms t k (λ h. known h .0)) _
+    (c .before .before .before .marked-side .ensures .0 m ws ms t k (λ h. known h .1)) greater (sym (c .before .over2 .ensures) ∙ c .if2 .taken))
 
 returns-3 : tie.Need-returns-3
-returns-3 c = λ l m ws ms x y o p. c .judge-call3 .ensures l m ws ms x y
+unfolding Side-summed verdict
+returns-3 c = λ there before l m ws ms x t k known.
+    let e = c .before .before in
+    let f = e .before .before .before .before .before in
+    as-call _ _ _ _ _ _ l m ws ms _
+    (by-constants ms ws (l .side .term) (m .side .term) _ (x l ws ms t k (λ h. known h .0)) _
+    (e .before .before .before .marked-side .ensures .0 m ws ms t k (λ h. known h .1)) (sym (f .before .over .ensures) ∙ f .if1 .left)
+    (sym (e .before .over2 .ensures) ∙ e .if2 .left) (c .if3 .taken))
 
--- both sides were spread, and the right is below the left
 returns-4 : tie.Need-returns-4
-unfolding Left-known
-returns-4 c = λ l m ws ms x y o p.
-    let else3 = c .before .before .before in
-    let else2 = else3 .before .before .before in
-    let second = else2 .before .before .before .before .before in
-    let through = second .before .before .before in
-    let pre = through .before .before .before .before .before .before .before .before .pre in
-    let known = pre .7 (not-false _ (through .if1 .left)) in
-    as-call _ _ _ _ l m ws ms _
-    (below-verdict ms ws _ _ _ _ _ _ (l .applied) (m .applied) o p (known .0) (known .1 l ws ms x y)
-    (second .side .ensures .1 (not-false _ (else2 .if2 .left)) m ms ws y x) (pre .6) (second .side .ensures .0) (else3 .if3 .left)
-    (sym (c .before .all-at-least .ensures) ∙ c .if4 .taken))
+unfolding Side-summed verdict
+returns-4 c = λ there before l m ws ms x t k known.
+    let g = c .before .before .before in
+    let e = g .before .before in
+    let f = e .before .before .before .before .before in
+    as-call _ _ _ _ _ _ l m ws ms _
+    (by-greater ms ws (l .side .term) (m .side .term) _ (x l ws ms t k (λ h. known h .0)) _
+    (e .before .before .before .marked-side .ensures .0 m ws ms t k (λ h. known h .1)) (sym (f .before .over .ensures) ∙ f .if1 .left)
+    (sym (e .before .over2 .ensures) ∙ e .if2 .left) (g .if3 .left) true (sym (c .before .all-at-least .ensures) ∙ c .if4 .taken))
 
 returns-5 : tie.Need-returns-5
-returns-5 c = λ l m ws ms x y o p. c .judge-call4 .ensures l m ws ms x y
+unfolding Side-summed verdict
+returns-5 c = λ there before l m ws ms x t k known.
+    let g = c .before .before .before in
+    let e = g .before .before in
+    let f = e .before .before .before .before .before in
+    as-call _ _ _ _ _ _ l m ws ms _
+    (by-greater ms ws (l .side .term) (m .side .term) _ (x l ws ms t k (λ h. known h .0)) _
+    (e .before .before .before .marked-side .ensures .0 m ws ms t k (λ h. known h .1)) (sym (f .before .over .ensures) ∙ f .if1 .left)
+    (sym (e .before .over2 .ensures) ∙ e .if2 .left) (g .if3 .left) false (sym (c .before .all-at-least .ensures) ∙ c .if4 .left))
 
 pub judge-call-spec : {M : Type 1} → statement M
 judge-call-spec =
@@ -42,18 +60,12 @@ judge-call-spec =
     (tie.spec
     (λ c κs. search needs)
     returns
-    (λ c. search needs)
     (λ c κs. search needs)
     (λ c κs. search needs)
-    (λ c. search needs)
     returns-2
-    (λ c κs. search needs)
+    (λ c. search needs)
     (λ c. search needs)
     returns-3
-    (λ c. search needs)
     (λ c κs. search needs)
-    (λ c. search needs)
     returns-4
-    (λ c κs. search needs)
-    (λ c. search needs)
     returns-5)
