@@ -1,5 +1,6 @@
 //! Seeded cases: packs, certificates, list rooms and arc questions of all kinds and sizes.
 
+pub mod limits;
 pub mod packs;
 pub mod spoil;
 
@@ -23,22 +24,14 @@ pub fn case(seed: u64) -> Case {
     // Seeds in a row shall not share their first numbers.
     random = Random::new(random.bits() ^ seed.rotate_left(32));
     let random = &mut random;
-    let mut base = some_base(random);
+    let (mut base, mut kept) = some_base(random);
     // Packs without pairs say little about certificates: they are kept rare.
     for _ in 0..4 {
         if base.components.is_empty() && random.chance(90) {
-            base = some_base(random);
+            (base, kept) = some_base(random);
         }
     }
-    let (mut pack, mut certificate) = match random.below(100) {
-        0..=14 => files(&base),
-        15..=66 => {
-            spoil_weights(random, &mut base);
-            files(&base)
-        }
-        67..=89 => spoil_records(random, &mut base),
-        _ => damaged(random, &base),
-    };
+    let (mut pack, mut certificate) = if random.chance(kept) { files(&base) } else { spoilt_files(random, &mut base) };
     // No room behind the last byte, so that a memory checker sees every read past it.
     pack.shrink_to_fit();
     certificate.shrink_to_fit();
@@ -47,20 +40,38 @@ pub fn case(seed: u64) -> Case {
     Case { pack, certificate, room, questions }
 }
 
-/// A base of a size by chance; great ones are rare, as they take long.
-fn some_base(random: &mut Random) -> Base {
-    match random.below(1_000) {
-        0..=249 => packs::guided(random, Size::Tiny),
-        250..=649 => packs::guided(random, Size::Small),
-        650..=879 => packs::guided(random, Size::Typical),
-        880..=891 => packs::guided(random, Size::Large),
-        892..=894 => packs::guided(random, Size::Limit),
-        895 => dense_base(random),
-        896..=930 => packs::edge(random),
+/// Percent of the bases that are left as they are made.
+const KEPT: usize = 15;
+/// The same for those near the limit of forms: nearly all spoils would bring them away from it.
+const KEPT_NEAR_LIMIT: usize = 75;
+
+/// A base of a size by chance, and the percent of its kind that are kept; great ones are rare, as they take long.
+fn some_base(random: &mut Random) -> (Base, usize) {
+    let base = match random.below(1_000) {
+        0..=234 => packs::guided(random, Size::Tiny),
+        235..=601 => packs::guided(random, Size::Small),
+        602..=831 => packs::guided(random, Size::Typical),
+        832..=843 => packs::guided(random, Size::Large),
+        844..=846 => packs::guided(random, Size::Limit),
+        847 => dense_base(random),
+        848..=930 => return (limits::near_limit(random), KEPT_NEAR_LIMIT),
         931..=960 => packs::unguided(random, Size::Tiny),
         961..=995 => packs::unguided(random, Size::Small),
         996..=997 => packs::unguided(random, Size::Typical),
         _ => Base { pack: Pack::default(), components: Vec::new() },
+    };
+    (base, KEPT)
+}
+
+/// Weights, records or bytes are spoilt.
+fn spoilt_files(random: &mut Random, base: &mut Base) -> (Vec<u8>, Vec<u8>) {
+    match random.below(85) {
+        0..=51 => {
+            spoil_weights(random, base);
+            files(base)
+        }
+        52..=74 => spoil_records(random, base),
+        _ => damaged(random, base),
     }
 }
 

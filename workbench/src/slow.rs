@@ -69,7 +69,7 @@ pub fn wide(components: usize) -> Base {
     weighted(vec![2, 1, 1], Rule { left, right }, components, weights)
 }
 
-/// Coefficients of 4,294,836,225 side by side: no bound over all of them settles the limit.
+/// Coefficients of 4,294,836,225 side by side: each is within the limit, their sum is not.
 /// Symbols: 0 c with two arguments, 1 f, 2 d, 3 s.
 pub fn brink(components: usize) -> Base {
     let calls = components.div_ceil(64).clamp(1, 12);
@@ -125,7 +125,7 @@ pub struct Deep {
     pub number: u32,
 }
 
-/// The deepest files known: sides nested as deep as can be, whose forms the quick way gives up.
+/// The deepest files known: sides nested as deep as can be, under weights 0, great ones and others.
 /// Symbols: 0 s that nests in its last argument, 1 f, 2 a constant, 3 t and 4 u with one argument.
 pub fn deep() -> Vec<Deep> {
     let mut all = Vec::new();
@@ -152,7 +152,7 @@ fn deep_in(width: u16, leaf: &Term) -> Vec<Deep> {
     ]
 }
 
-/// Great weights over what weighs nothing: no form is heavy, but only the exact way sees it.
+/// Great weights over what weighs nothing: no form is heavy.
 fn deep_over_nothing(width: u16) -> Vec<Deep> {
     let leaf = apply(2, vec![]);
     let shell = |symbol: u16, inside: u16| apply(symbol, vec![apply(inside, vec![nested(width, NODES - 2, &leaf)])]);

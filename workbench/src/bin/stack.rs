@@ -76,7 +76,7 @@ fn stated_limit() -> Outcome<usize> {
     }
 }
 
-/// 49152 is 49,152.
+/// 40960 is 40,960.
 fn with_commas(number: usize) -> String {
     match number / 1_000 {
         0 => number.to_string(),

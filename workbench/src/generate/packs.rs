@@ -610,37 +610,3 @@ fn only_defined_marks(pack: &Pack, mut components: Vec<Component>) -> Vec<Compon
     }
     components
 }
-
-/// A form right at the limit, or just over it: 65,535 × 65,537 is 4,294,967,295.
-pub fn edge(random: &mut Random) -> Base {
-    // Symbols: 0 constant a, 1 constant b, 2 g with two arguments, 3 s, 4 f, 5 zero.
-    let apply = |symbol: u16, arguments: Vec<Term>| Term::Apply(symbol, arguments);
-    let (x, y) = (Term::Variable(0), Term::Variable(*random.pick(&[0, 1])));
-    let by_variables = random.chance(50);
-    let (first, second) = if by_variables { (x, y) } else { (apply(0, vec![]), apply(1, vec![])) };
-    let heavy = apply(3, vec![apply(2, vec![first, second])]);
-    let left = apply(4, vec![heavy, apply(3, vec![apply(5, vec![])])]);
-    let right = apply(4, vec![apply(5, vec![]), apply(5, vec![])]);
-    let pack = Pack { arities: vec![0, 0, 2, 1, 2, 0], rules: vec![Rule { left, right }] };
-    let components = vec![edge_weights(random, by_variables)];
-    Base { pack, components }
-}
-
-fn edge_weights(random: &mut Random, by_variables: bool) -> Component {
-    let mut weights = Component { weighted: true, pairs: vec![(0, 0)], ..Component::default() };
-    let near_two = random.range(1, 3) as u16;
-    let (first, second) = if by_variables { ((2, 1), (2, 2)) } else { ((0, 0), (1, 0)) };
-    weights.plain.extend([(first, 65_535), (second, near_two)]);
-    if !by_variables {
-        weights.plain.extend([((2, 1), 1), ((2, 2), 1)]);
-    }
-    weights.plain.insert((3, 0), random.below(3) as u16);
-    weights.plain.insert((3, 1), 65_535);
-    weights.marked.insert((4, 0), random.below(3) as u16);
-    weights.marked.insert((4, 1), random.below(2) as u16);
-    weights.marked.insert((4, 2), random.below(3) as u16);
-    if random.chance(50) {
-        weights.plain.insert((4, 2), random.below(2) as u16);
-    }
-    weights
-}
