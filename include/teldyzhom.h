@@ -33,7 +33,7 @@
 #define TELDYZHOM_LIST_ENOUGH 16384
 
 /* More stack than any call takes, in bytes; the gate measures it on the deepest files known. */
-#define TELDYZHOM_STACK_BYTES 49152
+#define TELDYZHOM_STACK_BYTES 40960
 
 #ifdef __cplusplus
 extern "C" {
