@@ -1,4 +1,4 @@
--- How the code judges the components: by dense tables of weights. The contracts between our own functions speak of it; no
+-- How the code judges the components: by a table of weights. The contracts between our own functions speak of it; no
 -- promise to a user does.
 use mathlib.Core.Path.{_≡_}
 use mathlib.Core.Bool.{true, not, cond}

@@ -1,4 +1,4 @@
-// The weights of a component in dense tables, and all rules and its pairs under them.
+// The weights of a component in the table, and all rules and its pairs under them.
 use records::Record;
 use terms::Marked;
 use terms::Symbol;

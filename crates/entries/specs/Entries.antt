@@ -1,6 +1,6 @@
 -- The pairs that a certificate names are kept as entries of rule, place and component, one after the other as they stand there.
 use mathlib.Core.Path.{_≡_}
-use mathlib.Core.Bool.{Bool, true, false, cond}
+use mathlib.Core.Bool.{cond}
 use mathlib.Core.List.{List, [], _∷_}
 use Prim.Native.Nat.{ℕ, suc, _%_, _≤_, _<_}
 use lib.Dec.{ltb, eqb}

@@ -4,7 +4,7 @@ use records::Record;
 use records::Refusal;
 use records::Wanted;
 ghost use mathlib.Core.Path.{_≡_};
-ghost use mathlib.Core.List.{List, []};
+ghost use mathlib.Core.List.{[]};
 ghost use Prim.Native.Nat.{ℕ, _+_, _*_, _%_, _≤_, _<_};
 ghost use lib.ListN.{length, getD, drop, take, set, replicate};
 ghost use Rattle.records.specs.Answers.{outcome-of};
