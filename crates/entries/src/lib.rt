@@ -15,10 +15,10 @@ pub struct Entry {
     pub component: u16,
 }
 
-// How many pairs a certificate names, and their entries in its order.
+// The entries of the pairs that a certificate names, in its order, and how many there are. The count last, for a quick copy: DECISIONS 35.
 pub struct Store {
-    pub count: usize,
     pub entries: [Entry; 2048],
+    pub count: usize,
 }
 
 // The number of the component that record i belongs to.
@@ -110,5 +110,5 @@ pub fn keep(certificate: &[u8]) -> Store
         component: 0,
     }; 2048];
     let count = mark_all(certificate, &mut entries);
-    Store { count, entries }
+    Store { entries, count }
 }

@@ -1,5 +1,5 @@
 -- `entries::keep` meets its contract: a walk of its MIR, by hand.
---     _4 = Entry { rule: 0, place: 0, component: 0 };  _2 = [_4; 2048];  _5 = &mut _2;  _6 = slice of _5 and 2048;  _3 = mark_all(_1, _6);  _7 = _2;  _0 = Store { count: _3, entries: _7 };  return
+--     _4 = Entry { rule: 0, place: 0, component: 0 };  _2 = [_4; 2048];  _5 = &mut _2;  _6 = slice of _5 and 2048;  _3 = mark_all(_1, _6);  _7 = _2;  _0 = Store { entries: _7, count: _3 };  return
 -- The array is lent for the call, and comes back with the entries marked, for the store. All that is known of `mark_all` is its contract.
 -- The facts of the array are for any count n of entries, so that no check writes out 2048 of them.
 use mathlib.Core.Path.{_≡_, refl, sym, ap, subst, _∙_}
@@ -115,10 +115,10 @@ as-many [] = refl
 as-many (e ∷ es) = ap suc (as-many es)
 
 abbrev stored : ℕ → Val → Val
-stored r v = vstruct (vcons (vint w64 r) (vcons v vnil))
+stored r v = vstruct (vcons v (vcons (vint w64 r) vnil))
 
 store-is : (r : ℕ) (es : List Entry) (v : Val) → r < 2 ^ 64 → Is (Array R 2048) es (v ∷ []) → Is S.the-row (record { count = r; entries = es }) (stored r v ∷ [])
-store-is r es v fits is = ((vint w64 r ∷ [], (v ∷ [], tt)), (refl, ((refl, fits), ((is .0, ((is .1 .0 .0, as-many es ∙ is .1 .0 .1), each-field es (is .0) (is .1 .1))), tt))))
+store-is r es v fits is = ((v ∷ [], (vint w64 r ∷ [], tt)), (refl, ((is .0, ((is .1 .0 .0, as-many es ∙ is .1 .0 .1), each-field es (is .0) (is .1 .1))), ((refl, fits), tt))))
 
 -- The array stands in the local l, and is lent for a lifetime ν that is made for the call, under the ghost name γ.
 module _ (n l : ℕ) where
@@ -264,7 +264,7 @@ module _ {M : Type 1} (𝓤 : URA M) (H : Heap 𝓤) (A : Atoms 𝓤) (W : Given
         facts ! usize (Is usize) (shows 𝓤 H A usize) r (u ∷ []) (λ r-is. facts ! (Array R 2048) (Is (Array R 2048)) (shows 𝓤 H A (Array R 2048)) (ws .1 .0) (v ∷ []) (λ is.
         land ! (from ! (stop !)) (init ! 13 refl (uint-lawful 𝓤 H A W w64 .typed r _ r-is .0)) $ rewrite ! 13 (λ (w : Val). ‵ (fat fullShare (tyInt w64) l₃ 0 w)) (ap only (r-is .0)) refl $
         sets ! (of-opd ! (var ! 2 refl)) 5 refl (array-typed R (LL.lawful T.the-type T′.the-laws 𝓤 H A W .typed) 2048 (ws .1 .0) (v ∷ []) is .0) $
-        sets ! (agg ! (and-then ! (var ! 13 refl) (and-then ! (var ! 5 refl) (no-more !)))) 17 refl
+        sets ! (agg ! (and-then ! (var ! 5 refl) (and-then ! (var ! 13 refl) (no-more !)))) 17 refl
         (LL.lawful S.the-type S′.the-laws 𝓤 H A W .typed (record { count = r; entries = ws .1 .0 }) _ (store-is r (ws .1 .0) v (r-is .1) is) .0) $
         -- [the token; what s owns; _2; …; true; _7; …; _6; …; _5; …; _4; …; _3; …; _1; …; _0; …]: the return
         returns ! (look ! 17 refl) $ leave ! 17 refl refl $ leave ! 15 refl refl $ leave ! 2 refl refl $ leave ! 11 refl refl $ leave ! 9 refl refl $ leave ! 7 refl refl $ leave ! 5 refl refl $ leave ! 3 refl refl $ free0 ! $
