@@ -11,6 +11,8 @@ pub mod Pairs
 -- rewrite steps of a good system, and what derivations of each shape of tree look like
 pub mod Steps
 pub mod Derivations
+-- full rewriting, by contexts
+pub mod Contexts
 -- the dependency pair theorem: one way, the other way, both
 pub mod TermsTerminate
 pub mod ChainsTerminate

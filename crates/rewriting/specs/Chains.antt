@@ -1,7 +1,6 @@
 -- Chains of dependency pairs, and what it is that a system terminates.
 use mathlib.Core.Path.{_≡_}
-use mathlib.Core.Bool.{Bool, true, false}
-use Prim.Native.Nat.{ℕ}
+use mathlib.Core.Bool.{true}
 use Rattle.rewriting.specs.Terms.{Tree, System, is-term, Substitution, substituted, Over}
 use Rattle.rewriting.specs.Steps.{Strategy, Step, Steps}
 use Rattle.rewriting.specs.Termination.{SN}

@@ -5,3 +5,4 @@ pub mod Termination
 pub mod Pairs
 pub mod Chains
 pub mod Systems
+pub mod Contexts

@@ -1,5 +1,5 @@
 -- Defined symbols and dependency pairs.
-use mathlib.Core.Bool.{Bool, true, false, _&&_, _||_}
+use mathlib.Core.Bool.{Bool, false, _&&_, _||_}
 use mathlib.Core.List.{List, [], _∷_, _++_}
 use Prim.Native.Nat.{ℕ}
 use lib.Dec.{ltb, eqb}
@@ -51,7 +51,7 @@ pub record Pair : Type 0 where
   pub place : ℕ
 
 -- Its sides. Their roots stand for the tuple symbols (document 01: marked symbols): a pair acts at the root only, and
--- nothing but `Next` and the weights of tuple symbols ever looks at it, so no second kind of term is needed.
+-- nothing but `Next`, arcs and the weights of tuple symbols ever looks at it, so no second kind of term is needed.
 unfoldable pub pair-left : System → Pair → Tree
 pair-left p q = rule p (q .at-rule) .left
 

@@ -1,9 +1,8 @@
 -- Rewrite steps and derivations, under a strategy.
 use mathlib.Core.Path.{_≡_}
-use mathlib.Core.List.{List}
 use Prim.Native.Nat.{ℕ, _<_}
 use lib.ListN.{length}
-use Rattle.rewriting.specs.Terms.{Tree, var, app, nil, cons, System, rule, Substitution, substituted, Over}
+use Rattle.rewriting.specs.Terms.{Tree, app, cons, System, rule, Substitution, substituted, Over}
 
 -- which redexes may be contracted: a rule's number and the substitution under which its left side stands there
 abbrev pub Strategy : Type 1

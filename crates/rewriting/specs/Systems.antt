@@ -1,4 +1,4 @@
--- Good systems: what the theory of rewriting asks of a pack, and all it asks. A pack that passes 1 to 6 is one.
+-- Good systems: what the theory of rewriting asks of a pack and, for the polynomials, variables below 16. A pack that passes 1 to 6 is one.
 use mathlib.Core.Path.{_≡_}
 use mathlib.Core.Bool.{Bool, true, false, _&&_, _||_}
 use mathlib.Core.List.{List, [], _∷_, _++_}

@@ -1,12 +1,14 @@
 -- Terms over a signature, rules, substitutions.
 use mathlib.Core.Path.{_≡_}
 use mathlib.Core.Bool.{Bool, true, false, _&&_, not}
-use mathlib.Core.List.{List, [], _∷_, _++_}
-use Prim.Native.Nat.{ℕ, zero, suc}
+use mathlib.Core.List.{List}
+use Prim.Native.Nat.{ℕ, suc}
 use lib.Dec.{ltb, eqb}
 use lib.ListN.{length, getD}
 
--- Terms and argument lists are one kind of tree, so that every induction is a single one; `well` tells the two apart.
+-- Terms and argument lists are one kind of tree. With a list of terms inside a term every definition and every proof would be two that
+-- call each other; so each is one, with a clause for terms and one for lists. `is-list` and `well` tell the two apart, and what a
+-- definition says of a tree that is neither matters to nobody: whatever is read is well formed.
 pub data Tree : Type 0 where
   -- a variable, with any number
   var : ℕ → Tree
