@@ -17,23 +17,23 @@ use Rattle.records.specs.Order.{certificate-edge, index, may-follow}
 use Rattle.records.specs.Answers.{number-of}
 use Rattle.records.proofs.Bytes.{length-of-records, drop-records}
 use Rattle.certificate_reader.specs.declared.State.{State}
-use Rattle.certificates.specs.Reading.{Reading, most-bytes, components-of, cert-step, cert-end, cert-from, read-certificate}
+use Rattle.certificates.specs.CertificateReading.{Certificate-reading, most-certificate-bytes, components-of, cert-step, cert-end, cert-from, read-certificate}
 use Rattle.certificate_reader.specs.Working.{Certificate-read}
 use Rattle.certificates.proofs.OneRecord.{nothing-read}
 use Rattle.certificate_reader.proofs.Mirrored.{may-follow-mirrored}
 use Rattle.certificate_reader.proofs.Turns.{Told}
 
-module _ (p : System) (ds : List ℕ) (whole : length ds % 8 ≡ 0) (few : length ds ≤ most-bytes) where
+module _ (p : System) (ds : List ℕ) (whole : length ds % 8 ≡ 0) (few : length ds ≤ most-certificate-bytes) where
   not-cut : read-certificate p ds ≡ cert-from p (all-records ds) nothing-read
   unfolding read-certificate length-bad
-  not-cut = rw (le-ltb most-bytes (length ds) few, eq-eqb (length ds % 8) 0 whole)
+  not-cut = rw (le-ltb most-certificate-bytes (length ds) few, eq-eqb (length ds % 8) 0 whole)
 
   pub ends-refused : (y : Refusal) → cert-from p (all-records ds) nothing-read ≡ refused (number-of y) → Certificate-read (read-certificate p ds) (Refused y)
   unfolding Certificate-read
   ends-refused y e = rw (not-cut, e)
 
   module _ (i : ℕ) (s : State) (told : Told p (all-records ds) i s) where
-    abbrev x : Reading
+    abbrev x : Certificate-reading
     x = told .reading
 
     -- a record that may not stand there

@@ -14,7 +14,7 @@ use Rattle.rewriting.proofs.Basics.{by-test}
 use Rattle.pack_reader.specs.Stored.{Stored}
 use Rattle.pair_finder.specs.Walking.{is-marked}
 use Rattle.pair_finder.proofs.Subterms.{symbol-marked}
-use Rattle.certificates.specs.Reading.{is-place}
+use Rattle.certificates.specs.CertificateReading.{is-place}
 
 module _ (p : System) (symbols rules : ℕ) (ar ss ns ms : List ℕ) (s : Stored p symbols rules ar ss ns ms) where
   arity-stored : (f : ℕ) → f < symbols → getD (p .arities) f 0 ≡ getD ar f 0

@@ -18,7 +18,7 @@ use Rattle.polynomials.specs.Judging.{is-none}
 use Rattle.certificate_reader.specs.declared.State.{State}
 use Rattle.certificate_reader.specs.declared.Stepped.the-variants.{On, Refused as Stopped}
 use Rattle.certificates.specs.Components.{Component, no-weighting, with-pair, last-weighting, on-last, add-weight, add-marked, with-weight, with-marked}
-use Rattle.certificates.specs.Reading.{Reading, going-on, with-begun, components-of, has-weighting}
+use Rattle.certificates.specs.CertificateReading.{Certificate-reading, going-on, with-begun, components-of, has-weighting}
 use Rattle.certificate_reader.specs.Working.{key, Tells, begun-pairs, begun-weighting, Sound-state, Mirrors, Steps-as, Goes-on}
 use Rattle.certificates.proofs.OneRecord.{nothing-read, begun-with}
 use Rattle.certificate_reader.proofs.Keys.{tells-none, tells-more}
@@ -62,12 +62,12 @@ stops-with n y e = (y, refl, e)
 pub stops : (y : Refusal) → Steps-as (refused (number-of y)) (Stopped y)
 stops y = stops-with _ y refl
 
-pub answers : (x : Reading) (s : State) → Mirrors s x → Steps-as (passed x) (On s)
+pub answers : (x : Certificate-reading) (s : State) → Mirrors s x → Steps-as (passed x) (On s)
 unfolding Steps-as
 answers x s m = (s, refl, m)
 
 -- WHAT MAY FOLLOW is what may follow the record read last
-pub may-follow-mirrored : (s : State) (x : Reading) → Mirrors s x → (next : ℕ) →
+pub may-follow-mirrored : (s : State) (x : Certificate-reading) → Mirrors s x → (next : ℕ) →
     may-follow (x .last) next (x .due) (has-weighting (x .begun)) ≡ may-follow (s .last) next (s .due) (s .weighted)
 may-follow-mirrored s x m next = rw (← (m .last-is), ← (m .due-is), ← (m .weighted-is))
 
@@ -100,7 +100,7 @@ none-weighted zero h = (refl, refl)
 none-weighted (suc zero) h = (refl, refl)
 none-weighted (suc (suc b)) h = absurd (omega arith)
 
-pub component-mirrored : (s : State) (x : Reading) (b n : ℕ) → b ≤ 1 → Mirrors s x →
+pub component-mirrored : (s : State) (x : Certificate-reading) (b n : ℕ) → b ≤ 1 → Mirrors s x →
     Mirrors (record { last = 6; number = s .number + 1; due = n; weighted = eqb b 1; «pair_key» = 0; «weight_key» = 0; «marked_key» = 0 })
     (going-on 6 (components-of x) (begun-with b) n)
 unfolding components-of with-begun has-weighting begun-pairs begun-weighting
@@ -132,7 +132,7 @@ last-changed change (w ∷ []) h = refl
 last-changed change (w ∷ v ∷ []) h = refl
 last-changed change (w ∷ v ∷ u ∷ ws) h = last-changed change (v ∷ u ∷ ws) refl
 
-module _ (s : State) (x : Reading) (c : Component) (is : x .begun ≡ some c) (m : Mirrors s x) where
+module _ (s : State) (x : Certificate-reading) (c : Component) (is : x .begun ≡ some c) (m : Mirrors s x) where
   as-many : (d : Component) → s .number ≡ length (x .done ++ (d ∷ []))
   unfolding components-of with-begun
   as-many d =

@@ -10,12 +10,12 @@ use borrow.Author.Tests.{eqb-true, eqb-false, eq-eqb, ne-eqb, leb-true}
 use Rattle.rewriting.specs.Terms.{System}
 use Rattle.rewriting.proofs.Basics.{by-test, and-left, and-right}
 use Rattle.records.specs.declared.Record.{Record}
-use Rattle.records.specs.Order.{C-component, P-pair, W-weight, M-marked, order, lets, index, may-follow}
+use Rattle.records.specs.Order.{C-component, P-pair, W-weight, M-marked, entry, order, when-in, lets, index, may-follow}
 use Rattle.records.proofs.Table.{Kind, is-S, is-R, is-F, is-V, is-C, is-P, is-W, is-M, is-other, kind-of, other-nowhere, may-follow-entry}
 use Rattle.certificate_reader.specs.declared.State.{State}
 use Rattle.certificate_reader.specs.declared.Stepped.{Stepped}
 use Rattle.certificates.specs.Components.{Component}
-use Rattle.certificates.specs.Reading.{Reading, has-weighting, component-read, pair-read, weight-read, marked-read, inside-read, cert-step}
+use Rattle.certificates.specs.CertificateReading.{Certificate-reading, has-weighting, component-read, pair-read, weight-read, marked-read, inside-read, cert-step}
 use Rattle.certificate_reader.specs.Working.{Sound-state, Mirrors, Steps-as}
 use Rattle.certificates.proofs.OneRecord.{foreign}
 use Rattle.certificate_reader.proofs.Mirrored.{may-follow-mirrored}
@@ -37,7 +37,7 @@ row-of n h k = is 5 at-start (λ a. is 6 after-C (λ b. is 7 after-P (λ c. is 8
 
 -- where a P may stand, pairs are due
 pair-row : (due : ℕ) (w : Bool) {last : ℕ} → Row last → (last ≡ 6 → 1 ≤ due) → may-follow last 7 due w ≡ true → (last ≡ 5 → ⊥) × (1 ≤ due)
-unfolding may-follow order lets
+unfolding may-follow entry order when-in lets
 pair-row due w at-start h m = absurd (false≢true m)
 pair-row due w after-C h m = (λ e. omega arith, h refl)
 pair-row due w after-P h m = (λ e. omega arith, leb-true 1 due m)
@@ -47,7 +47,7 @@ pair-row due w after-M h m = absurd (false≢true m)
 -- where a W or an M may stand, none is, and there is a weighting
 weight-row : (due : ℕ) (w : Bool) {last : ℕ} → Row last → (8 ≤ last → due ≡ 0) → (8 ≤ last → w ≡ true) → may-follow last 8 due w ≡ true →
     (last ≡ 5 → ⊥) × (due ≡ 0) × (w ≡ true)
-unfolding may-follow order lets
+unfolding may-follow entry order when-in lets
 weight-row due w at-start h k m = absurd (false≢true m)
 weight-row due w after-C h k m = absurd (false≢true m)
 weight-row due w after-P h k m = (λ e. omega arith, eqb-true due 0 (and-left _ _ m), and-right (eqb due 0) w m)
@@ -56,7 +56,7 @@ weight-row due w after-M h k m = absurd (false≢true m)
 
 marked-row : (due : ℕ) (w : Bool) {last : ℕ} → Row last → (8 ≤ last → due ≡ 0) → (8 ≤ last → w ≡ true) → may-follow last 9 due w ≡ true →
     (last ≡ 5 → ⊥) × (due ≡ 0) × (w ≡ true)
-unfolding may-follow order lets
+unfolding may-follow entry order when-in lets
 marked-row due w at-start h k m = absurd (false≢true m)
 marked-row due w after-C h k m = absurd (false≢true m)
 marked-row due w after-P h k m = (λ e. omega arith, eqb-true due 0 (and-left _ _ m), and-right (eqb due 0) w m)
@@ -104,7 +104,7 @@ module _ (s : State) (sound : Sound-state s) (k : ℕ) (may : may-follow (s .las
   only-marked = rest-marked (s .last) (s .due) k (s .weighted) (sound .row-low) (sound .row-high) may (kind-of k)
 
 -- and then the step is the step of its kind
-module _ (p : System) (r : Record) (s : State) (x : Reading) (t : Stepped) (m : Mirrors s x) (may : may-follow (s .last) (index (r .kind)) (s .due) (s .weighted) ≡ true) where
+module _ (p : System) (r : Record) (s : State) (x : Certificate-reading) (t : Stepped) (m : Mirrors s x) (may : may-follow (s .last) (index (r .kind)) (s .due) (s .weighted) ≡ true) where
   stands : may-follow (x .last) (index (r .kind)) (x .due) (has-weighting (x .begun)) ≡ true
   stands = may-follow-mirrored s x m (index (r .kind)) ∙ may
 

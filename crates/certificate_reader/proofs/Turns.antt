@@ -12,14 +12,14 @@ use Rattle.records.specs.Outcomes.{Outcome, refused, passed}
 use Rattle.records.specs.Answers.{number-of}
 use Rattle.certificate_reader.specs.declared.State.{State}
 use Rattle.certificate_reader.specs.declared.Stepped.the-variants.{On, Refused as Stopped}
-use Rattle.certificates.specs.Reading.{Reading, cert-step, cert-from}
+use Rattle.certificates.specs.CertificateReading.{Certificate-reading, cert-step, cert-from}
 use Rattle.certificate_reader.specs.Working.{Mirrors, Steps-as}
 use Rattle.certificates.proofs.OneRecord.{nothing-read}
 use Rattle.certificate_reader.proofs.Mirrored.{start-state, start-mirrored}
 
 -- what the state tells of the first i records
 pub record Told (p : System) (rs : List Record) (i : ℕ) (s : State) : Type 0 where
-  pub reading : Reading
+  pub reading : Certificate-reading
   pub mirrors : Mirrors s reading
   pub rest : cert-from p (drop i rs) reading ≡ cert-from p rs nothing-read
 
@@ -37,12 +37,12 @@ on-same e = cc
 not-on : {y : Refusal} {s : State} → Stopped y ≡ On s → ⊥
 not-on {y} {s} e = let z : _≡_ {A = ℕ} 0 1 = cc in omega arith
 
-stopped-as : (o : Outcome Reading) (y : Refusal) → Steps-as o (Stopped y) → o ≡ refused (number-of y)
+stopped-as : (o : Outcome Certificate-reading) (y : Refusal) → Steps-as o (Stopped y) → o ≡ refused (number-of y)
 unfolding Steps-as
 stopped-as (refused n) y h = let same : y ≡ h .0 = stopped-same (h .1) in ap refused (sym (ap number-of same ∙ h .2))
 stopped-as (passed x) y h = absurd (not-on (h .1))
 
-gone-on : (o : Outcome Reading) (t : State) → Steps-as o (On t) → (x : Reading) × (o ≡ passed x) × Mirrors t x
+gone-on : (o : Outcome Certificate-reading) (t : State) → Steps-as o (On t) → (x : Certificate-reading) × (o ≡ passed x) × Mirrors t x
 unfolding Steps-as
 gone-on (refused n) t h = absurd (not-on (sym (h .1)))
 gone-on (passed x) t h = (x, refl, subst (λ (u : State). Mirrors u x) (sym (on-same (h .1))) (h .2))
@@ -56,7 +56,7 @@ module _ (p : System) (rs : List Record) (i : ℕ) (s : State) (told : Told p rs
       sym (told .rest) ∙ ap (λ (l : List Record). cert-from p l (told .reading)) here ∙ rw (stopped-as (cert-step p r (told .reading)) y st)
 
   module _ (t : State) (st : Steps-as (cert-step p r (told .reading)) (On t)) where
-    next : (y : Reading) × (cert-step p r (told .reading) ≡ passed y) × Mirrors t y
+    next : (y : Certificate-reading) × (cert-step p r (told .reading) ≡ passed y) × Mirrors t y
     next = gone-on (cert-step p r (told .reading)) t st
 
     rest-next : cert-from p (drop (i + 1) rs) (next .0) ≡ cert-from p rs nothing-read

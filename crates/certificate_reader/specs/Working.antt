@@ -12,14 +12,14 @@ use Rattle.records.specs.declared.Record.{Record}
 use Rattle.records.specs.declared.Answer.{Answer}
 use Rattle.records.specs.declared.Refusal.{Refusal}
 use Rattle.records.specs.Outcomes.{Outcome, refused, passed}
-use Rattle.records.specs.Answers.{number-of, outcome-of}
+use Rattle.records.specs.Answers.{number-of, answer-outcome}
 use Rattle.records.specs.Rising.{last-below}
 use Rattle.polynomials.specs.Polynomials.{Weight, Weighting}
 use Rattle.certificate_reader.specs.declared.State.{State}
 use Rattle.certificate_reader.specs.declared.Stepped.{Stepped}
 use Rattle.certificate_reader.specs.declared.Stepped.the-variants.{On, Refused as Stopped}
 use Rattle.certificates.specs.Components.{Component, last-weighting}
-use Rattle.certificates.specs.Reading.{Reading, components-of, has-weighting}
+use Rattle.certificates.specs.CertificateReading.{Certificate-reading, components-of, has-weighting}
 
 -- two numbers as one that rises with them, where the second is below 65536; 0 stands for none, so a key is one more
 unfoldable pub key : (a b : ℕ) → ℕ
@@ -46,7 +46,7 @@ pub record Sound-state (s : State) : Type 0 where
   pub has-one : 8 ≤ s .last → s .weighted ≡ true
 
 -- the state tells what has been read
-pub record Mirrors (s : State) (x : Reading) : Type 0 where
+pub record Mirrors (s : State) (x : Certificate-reading) : Type 0 where
   pub last-is : s .last ≡ x .last
   pub begun-is : (s .last ≡ 5 → ⊥) → (c : Component) × (x .begun ≡ some c)
   pub number-is : s .number ≡ length (components-of x)
@@ -57,7 +57,7 @@ pub record Mirrors (s : State) (x : Reading) : Type 0 where
   pub marked-key-tells : Tells (λ w. w .symbol) (λ w. w .place) (begun-weighting (x .begun) .marked) (s .«marked_key»)
 
 -- what one step answers
-unfoldable pub Steps-as : Outcome Reading → Stepped → Type 0
+unfoldable pub Steps-as : Outcome Certificate-reading → Stepped → Type 0
 Steps-as (refused n) r = (y : Refusal) × (r ≡ Stopped y) × (number-of y ≡ n)
 Steps-as (passed x) r = (s : State) × (r ≡ On s) × Mirrors s x
 
@@ -67,5 +67,5 @@ Goes-on s r = (u : State) → r ≡ On u → Sound-state u × (u .number ≤ s .
 
 -- what `read_certificate` answers: the refusal, or how many components there are
 unfoldable pub Certificate-read : Outcome (List Component) → Answer → Type 0
-Certificate-read (refused n) r = outcome-of r ≡ refused n
-Certificate-read (passed cs) r = outcome-of r ≡ passed (length cs)
+Certificate-read (refused n) r = answer-outcome r ≡ refused n
+Certificate-read (passed cs) r = answer-outcome r ≡ passed (length cs)

@@ -10,7 +10,7 @@ ghost use lib.ListN.{length};
 ghost use Rattle.rewriting.specs.Terms.{System};
 ghost use Rattle.pack_reader.specs.Stored.{Stored};
 ghost use Rattle.pair_finder.specs.Walking.{Laid};
-ghost use Rattle.certificates.specs.Reading.{read-certificate};
+ghost use Rattle.certificates.specs.CertificateReading.{read-certificate};
 ghost use Rattle.certificate_reader.specs.Working.{Certificate-read};
 
 // What has been read: the last record's row of the table, the components begun, the pairs still due of the last one,

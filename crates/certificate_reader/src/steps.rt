@@ -17,7 +17,7 @@ ghost use Rattle.records.specs.Order.{index, may-follow};
 ghost use Rattle.pack_reader.specs.Stored.{Stored};
 ghost use Rattle.pair_finder.specs.Walking.{Laid, is-marked};
 ghost use Rattle.certificates.specs.Components.{Component};
-ghost use Rattle.certificates.specs.Reading.{Reading, cert-step, component-read, pair-read, weight-read, marked-read};
+ghost use Rattle.certificates.specs.CertificateReading.{Certificate-reading, cert-step, component-read, pair-read, weight-read, marked-read};
 ghost use Rattle.certificate_reader.specs.Working.{key, Sound-state, Mirrors, Goes-on, Steps-as};
 ghost use mathlib.Core.Option.{some};
 
@@ -32,7 +32,7 @@ fn key(a: u16, b: u16) -> u64
 fn component(r: Record, s: State) -> Stepped
     requires { ⌜ s .number < 65536 ⌝ }
     ensures on { λ t. ⌜ Goes-on s t ⌝ }
-    ensures means { λ t. ⌜ ((x : Reading) → Mirrors s x → r .kind ≡ 67 → Steps-as (component-read r x) t) ⌝ }
+    ensures means { λ t. ⌜ ((x : Certificate-reading) → Mirrors s x → r .kind ≡ 67 → Steps-as (component-read r x) t) ⌝ }
 {
     if r.one != 0 {
         return Stepped::Refused(Refusal::StrayRecord);
@@ -69,7 +69,7 @@ fn component(r: Record, s: State) -> Stepped
 fn pair(r: Record, s: State, rules: usize, starts: &[u16], nodes: &[u8], marks: &[u8]) -> Stepped
     requires { ⌜ Laid (now starts) (now nodes) rules × (length (now marks) ≡ 64) × (1 ≤ s .due) ⌝ }
     ensures on { λ t. ⌜ Goes-on s t ⌝ }
-    ensures means { λ t. ⌜ ((p : System) (symbols : ℕ) (arities : List ℕ) (x : Reading) (c : Component) → Stored p symbols rules arities (now (starts .entry)) (now (nodes .entry)) (now (marks .entry)) → Mirrors s x → x .begun ≡ some c → r .kind ≡ 80 → Steps-as (pair-read p r x c) t) ⌝ }
+    ensures means { λ t. ⌜ ((p : System) (symbols : ℕ) (arities : List ℕ) (x : Certificate-reading) (c : Component) → Stored p symbols rules arities (now (starts .entry)) (now (nodes .entry)) (now (marks .entry)) → Mirrors s x → x .begun ≡ some c → r .kind ≡ 80 → Steps-as (pair-read p r x c) t) ⌝ }
 {
     if r.one != 0 {
         return Stepped::Refused(Refusal::StrayRecord);
@@ -122,7 +122,7 @@ fn is_marked_place(arities: &[u8], symbols: usize, marks: &[u8], f: Marked, i: u
 fn weight(r: Record, s: State, symbols: usize, arities: &[u8]) -> Stepped
     requires { ⌜ (length (now arities) ≡ 64) × (symbols ≤ 64) × (s .weighted ≡ true) ⌝ }
     ensures on { λ t. ⌜ Goes-on s t ⌝ }
-    ensures means { λ t. ⌜ ((p : System) (rules : ℕ) (starts nodes marks : List ℕ) (x : Reading) (c : Component) → Stored p symbols rules (now (arities .entry)) starts nodes marks → Mirrors s x → x .begun ≡ some c → s .due ≡ 0 → r .kind ≡ 87 → Steps-as (weight-read p r x c) t) ⌝ }
+    ensures means { λ t. ⌜ ((p : System) (rules : ℕ) (starts nodes marks : List ℕ) (x : Certificate-reading) (c : Component) → Stored p symbols rules (now (arities .entry)) starts nodes marks → Mirrors s x → x .begun ≡ some c → s .due ≡ 0 → r .kind ≡ 87 → Steps-as (weight-read p r x c) t) ⌝ }
 {
     if r.one != 0 {
         return Stepped::Refused(Refusal::StrayRecord);
@@ -149,7 +149,7 @@ fn weight(r: Record, s: State, symbols: usize, arities: &[u8]) -> Stepped
 fn marked(r: Record, s: State, symbols: usize, arities: &[u8], marks: &[u8]) -> Stepped
     requires { ⌜ (length (now arities) ≡ 64) × (length (now marks) ≡ 64) × (symbols ≤ 64) × (s .weighted ≡ true) ⌝ }
     ensures on { λ t. ⌜ Goes-on s t ⌝ }
-    ensures means { λ t. ⌜ ((p : System) (rules : ℕ) (starts nodes : List ℕ) (x : Reading) (c : Component) → Stored p symbols rules (now (arities .entry)) starts nodes (now (marks .entry)) → Mirrors s x → x .begun ≡ some c → s .due ≡ 0 → r .kind ≡ 77 → Steps-as (marked-read p r x c) t) ⌝ }
+    ensures means { λ t. ⌜ ((p : System) (rules : ℕ) (starts nodes : List ℕ) (x : Certificate-reading) (c : Component) → Stored p symbols rules (now (arities .entry)) starts nodes (now (marks .entry)) → Mirrors s x → x .begun ≡ some c → s .due ≡ 0 → r .kind ≡ 77 → Steps-as (marked-read p r x c) t) ⌝ }
 {
     if r.one != 0 {
         return Stepped::Refused(Refusal::StrayRecord);
@@ -185,7 +185,7 @@ pub fn step(
 ) -> Stepped
     requires { ⌜ (s .number < 65536) × (symbols ≤ 64) × (length (now arities) ≡ 64) × Laid (now starts) (now nodes) rules × (length (now marks) ≡ 64) × Sound-state s × (may-follow (s .last) (index (r .kind)) (s .due) (s .weighted) ≡ true) ⌝ }
     ensures on { λ t. ⌜ Goes-on s t ⌝ }
-    ensures means { λ t. ⌜ ((p : System) (x : Reading) → Stored p symbols rules (now (arities .entry)) (now (starts .entry)) (now (nodes .entry)) (now (marks .entry)) → Mirrors s x → Steps-as (cert-step p r x) t) ⌝ }
+    ensures means { λ t. ⌜ ((p : System) (x : Certificate-reading) → Stored p symbols rules (now (arities .entry)) (now (starts .entry)) (now (nodes .entry)) (now (marks .entry)) → Mirrors s x → Steps-as (cert-step p r x) t) ⌝ }
 {
     if r.kind == b'C' {
         return component(r, s);

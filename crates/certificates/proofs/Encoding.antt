@@ -8,22 +8,21 @@ use native.Mathlib.Omega.{arith}
 use lib.Dec.{ltb}
 use lib.ListN.{length, getD, length-append}
 use borrow.Author.Tests.{ltb-true, leb-true}
-use Rattle.rewriting.specs.Terms.{System, rule}
+use Rattle.rewriting.specs.Terms.{System}
 use Rattle.rewriting.specs.Pairs.{Pair}
 use Rattle.rewriting.proofs.Basics.{and-left, and-right, Each, each-nil, each-cons, each-head, each-tail}
-use Rattle.rewriting.proofs.Pairs.{pair-rule, pair-place}
 use Rattle.records.specs.declared.Record.{Record}
 use Rattle.records.specs.Records.{a-record}
 use Rattle.records.specs.Order.{C-component, W-weight, M-marked}
 use Rattle.records.proofs.Bytes.{In-range, All-in-range, in-range-append}
 use Rattle.packs.specs.Encoding.{Good-pack}
-use Rattle.terms.proofs.Parsing.{length-flat}
 use Rattle.pairs.specs.Listing.{pair-record, pair-records}
+use Rattle.pairs.proofs.Answering.{pairs-in-range}
 use Rattle.polynomials.specs.Polynomials.{Weight, Weighting}
 use Rattle.certificates.specs.Components.{Component}
-use Rattle.certificates.specs.Reading.{is-place}
+use Rattle.certificates.specs.CertificateReading.{is-place}
 use Rattle.certificates.specs.Encoding.{weight-records, weighting-records, component-records}
-use Rattle.certificates.proofs.Shapes.{Is-pair, At-place, Weighting-shaped, Shaped, Value-fits, Values-fit, Component-fits}
+use Rattle.certificates.proofs.Shapes.{At-place, Weighting-shaped, Shaped, Value-fits, Values-fit, Component-fits}
 
 -- the record of a weight; its kind says whether of a symbol or of a tuple symbol
 abbrev pub weight-record : (kind : ℕ) → Weight → Record
@@ -65,21 +64,6 @@ components-few i (c ∷ cs) =
 -- THE FIELDS FIT a record of 8 bytes
 
 module _ (p : System) (g : Good-pack p) where
-  pair-in-range : (q : Pair) → Is-pair p q → In-range (pair-record q)
-  unfolding pair-record
-  pair-in-range q is =
-      let number = pair-rule p q is in
-      let place = pair-place p q is in
-      let rules = g .rule-count in
-      let nodes = g .rights (q .at-rule) number in
-      let places = length-flat (rule p (q .at-rule) .right) in
-      omega arith
-
-  pairs-in-range : (qs : List Pair) → Each (Is-pair p) qs → All-in-range (pair-records qs)
-  unfolding pair-records
-  pairs-in-range [] h = tt
-  pairs-in-range (q ∷ qs) h = (pair-in-range q (each-head h), pairs-in-range qs (each-tail h))
-
   weight-in-range : (k : ℕ) (w : Weight) → k < 256 → At-place p w → Value-fits w → In-range (weight-record k w)
   unfolding is-place
   weight-in-range k w h at fits =
@@ -114,18 +98,18 @@ module _ (p : System) (g : Good-pack p) where
       let shape = each-head s in
       let counts = shape .counts in (
         omega arith,
-        in-range-append (pair-records (c .pairs)) _ (pairs-in-range (c .pairs) (shape .in-order .are-pairs))
+        in-range-append (pair-records (c .pairs)) _ (pairs-in-range p g (c .pairs) (shape .in-order .are-pairs))
             (in-range-append (weighting-records (c .weightings)) _ (weightings-in-range (c .weightings) (shape .in-order .weightings-shaped) (each-head f))
             (components-in-range (suc i) cs (omega arith) (each-tail s) (each-tail f))),
       )
 
 -- AND THE VALUES WITH THEM
 
-in-range-left : (rs ss : List Record) → All-in-range (rs ++ ss) → All-in-range rs
+pub in-range-left : (rs ss : List Record) → All-in-range (rs ++ ss) → All-in-range rs
 in-range-left [] ss h = tt
 in-range-left (r ∷ rs) ss h = (h .0, in-range-left rs ss (h .1))
 
-in-range-right : (rs ss : List Record) → All-in-range (rs ++ ss) → All-in-range ss
+pub in-range-right : (rs ss : List Record) → All-in-range (rs ++ ss) → All-in-range ss
 in-range-right [] ss h = h
 in-range-right (r ∷ rs) ss h = in-range-right rs ss (h .1)
 
@@ -134,7 +118,7 @@ unfolding weight-records
 weights-fit-back k [] h = each-nil
 weights-fit-back k (w ∷ ws) h = each-cons w ws (h .0 .c-small) (weights-fit-back k ws (h .1))
 
-weightings-fit-back : (vs : List Weighting) → All-in-range (weighting-records vs) → Each Values-fit vs
+pub weightings-fit-back : (vs : List Weighting) → All-in-range (weighting-records vs) → Each Values-fit vs
 unfolding weighting-records
 weightings-fit-back [] h = each-nil
 weightings-fit-back (v ∷ vs) h =

@@ -12,3 +12,4 @@ pub mod Places
 pub mod ReadBack
 pub mod OnlyEncodings
 pub mod Refusals
+pub mod FirstFailure

@@ -1,6 +1,6 @@
 -- One record of a certificate: the four ways to read it without a refusal, exactly.
 use mathlib.Core.Path.{_≡_, refl}
-use mathlib.Core.Bool.{Bool, true, false, _&&_, not}
+use mathlib.Core.Bool.{Bool, true, false, _&&_, not, cond}
 use mathlib.Core.List.{List, []}
 use mathlib.Core.Option.{Option, none, some}
 use Prim.Native.Nat.{ℕ, zero, suc, _-_, _≤_, _<_}
@@ -12,7 +12,7 @@ use Rattle.rewriting.specs.Terms.{System}
 use Rattle.rewriting.specs.Pairs.{Pair, is-pair, defined}
 use Rattle.rewriting.proofs.Basics.{and-left, and-right}
 use Rattle.records.specs.declared.Record.{Record}
-use Rattle.records.specs.Outcomes.{refused, passed}
+use Rattle.records.specs.Outcomes.{passed}
 use Rattle.records.specs.Records.{a-record}
 use Rattle.records.specs.Order.{C-component, P-pair, W-weight, M-marked, certificate-edge, index, may-follow}
 use Rattle.records.specs.Rising.{last-below}
@@ -21,20 +21,20 @@ use Rattle.records.proofs.Table.{Kind, is-S, is-R, is-F, is-V, is-C, is-P, is-W
 use Rattle.pairs.specs.Listing.{a-pair, pair-record}
 use Rattle.polynomials.specs.Polynomials.{Weight}
 use Rattle.certificates.specs.Components.{Component, no-weighting, with-pair, last-weighting, with-weight, with-marked}
-use Rattle.certificates.specs.Reading.{Reading, going-on, most-pairs, most-weightings, components-of, has-weighting, component-read, pair-read, weight-of, weights-below, is-place, weight-read, marked-read, inside-read, cert-step}
+use Rattle.certificates.specs.CertificateReading.{Certificate-reading, going-on, most-pairs, most-weightings, components-of, has-weighting, component-read, pair-read, weights-below, is-place, weight-read, marked-read, inside-read, cert-step}
 use Rattle.certificates.proofs.Shapes.{Counted, Is-pair, At-place, Of-defined}
 use Rattle.certificates.proofs.Encoding.{weight-record}
 
 -- before the first record
-abbrev pub nothing-read : Reading
+abbrev pub nothing-read : Certificate-reading
 nothing-read = record { last = certificate-edge; done = []; begun = none; due = 0 }
 
 -- after a C record
 abbrev pub begun-with : (weightings : ℕ) → Component
 begun-with b = record { pairs = []; weightings = replicate b no-weighting }
 
-pub data Reads (p : System) : Reading → Record → Reading → Type 0 where
-  reads-component : (x : Reading) (b n : ℕ) → may-follow (x .last) 6 (x .due) (has-weighting (x .begun)) ≡ true → Counted b n
+pub data Reads (p : System) : Certificate-reading → Record → Certificate-reading → Type 0 where
+  reads-component : (x : Certificate-reading) (b n : ℕ) → may-follow (x .last) 6 (x .due) (has-weighting (x .begun)) ≡ true → Counted b n
       → Reads p x (a-record C-component (length (components-of x)) b n) (going-on 6 (components-of x) (begun-with b) n)
   reads-pair : (last : ℕ) (cs : List Component) (c : Component) (due : ℕ) (q : Pair) → may-follow last 7 due (has-weighting (some c)) ≡ true
       → last-below (λ q. q .at-rule) (λ q. q .place) (c .pairs) (q .at-rule) (q .place) ≡ true → Is-pair p q
@@ -53,8 +53,8 @@ pub counts-alone : (b n : ℕ) → (b ≡ 0 → n ≤ 1) → eqb b 0 && ltb 1 n 
 counts-alone zero n h = le-ltb 1 n (h refl)
 counts-alone (suc b) n h = rw (eqb·suc-zero b)
 
-pub reads-passes : (p : System) (x y : Reading) (r : Record) → Reads p x r y → cert-step p r x ≡ passed y
-unfolding cert-step component-read inside-read pair-read weight-read marked-read weight-of index pair-record
+pub reads-passes : (p : System) (x y : Certificate-reading) (r : Record) → Reads p x r y → cert-step p r x ≡ passed y
+unfolding cert-step component-read inside-read pair-read weight-read marked-read index pair-record
 reads-passes p _ _ _ (reads-component x b n h k) =
     rw (h, eq-eqb _ _ refl, counts-alone b n (λ e. let one = k .alone e in omega arith), le-leb _ _ (k .weightings-few), le-leb _ _ (k .pairs-some), le-leb _ _ (k .pairs-few))
 reads-passes p _ _ _ (reads-pair last cs c due q h below is) = rw (h, below, is)
@@ -63,25 +63,21 @@ reads-passes p _ _ _ (reads-marked last cs c due w h below place def) = rw (h, b
 
 -- AND IN NO OTHER WAY: a step that passes is one of the four
 
+pub alone-counts : (b n : ℕ) → not (eqb b 0 && ltb 1 n) ≡ true → b ≡ 0 → n ≤ 1
+alone-counts b n h e = ltb-false 1 n (rw (eq-eqb b 0 e) at (not-true (eqb b 0 && ltb 1 n) h))
+
 counted-by : (b n : ℕ) → b ≤ most-weightings → 1 ≤ n → n ≤ most-pairs → not (eqb b 0 && ltb 1 n) ≡ true → Counted b n
 counted-by b n few one bound h =
-    record {
-      weightings-few = few;
-      pairs-some = one;
-      pairs-few = bound;
-      alone = λ e.
-          let many : ltb 1 n ≡ false = rw (eq-eqb b 0 e) at (not-true (eqb b 0 && ltb 1 n) h) in
-          omega (arith, ltb-false 1 n many);
-    }
+    record { weightings-few = few; pairs-some = one; pairs-few = bound; alone = λ e. omega (arith, alone-counts b n h e) }
 
-module _ (p : System) (y : Reading) (one a b c : ℕ) where
-  component-passes : (x : Reading) → may-follow (x .last) 6 (x .due) (has-weighting (x .begun)) ≡ true
+module _ (p : System) (y : Certificate-reading) (one a b c : ℕ) where
+  component-passes : (x : Certificate-reading) → may-follow (x .last) 6 (x .due) (has-weighting (x .begun)) ≡ true
       → component-read (record { kind = C-component; one = one; a = a; b = b; c = c }) x ≡ passed y
       → Reads p x (record { kind = C-component; one = one; a = a; b = b; c = c }) y
   unfolding component-read index
   component-passes x h e =
-      let zeros = test-held ((eqb one 0 && eqb a (length (components-of x))) && not (eqb b 0 && ltb 1 c)) _ 2 e in
-      let range = test-held (leb b most-weightings && (leb 1 c && leb c most-pairs)) _ 3 (zeros .1) in
+      let zeros = test-held ((eqb one 0 && eqb a (length (components-of x))) && not (eqb b 0 && ltb 1 c)) _ _ e in
+      let range = test-held (leb b most-weightings && (leb 1 c && leb c most-pairs)) _ _ (zeros .1) in
       let number = and-left (eqb one 0 && eqb a (length (components-of x))) _ (zeros .0) in
       let few-alone = and-right (eqb one 0 && eqb a (length (components-of x))) _ (zeros .0) in
       let pairs-range = and-right (leb b most-weightings) _ (range .0) in
@@ -99,8 +95,8 @@ module _ (p : System) (y : Reading) (one a b c : ℕ) where
     unfolding pair-read index pair-record
     pair-passes h e =
         let below = last-below (λ q. q .at-rule) (λ q. q .place) (d .pairs) a b in
-        let zeros = test-held ((eqb one 0 && eqb c 0) && below) _ 2 e in
-        let is = test-held (is-pair p (a-pair a b)) _ 7 (zeros .1) in
+        let zeros = test-held ((eqb one 0 && eqb c 0) && below) _ _ e in
+        let is = test-held (is-pair p (a-pair a b)) _ _ (zeros .1) in
         let fields = and-left (eqb one 0 && eqb c 0) below (zeros .0) in
         let one-zero : one ≡ 0 = eqb-true _ _ (and-left _ _ fields) in
         let c-zero : c ≡ 0 = eqb-true _ _ (and-right (eqb one 0) _ fields) in
@@ -113,10 +109,10 @@ module _ (p : System) (y : Reading) (one a b c : ℕ) where
     weight-passes : may-follow last 8 due (has-weighting (some d)) ≡ true
         → weight-read p (record { kind = W-weight; one = one; a = a; b = b; c = c }) (going-on last cs d due) d ≡ passed y
         → Reads p (going-on last cs d due) (record { kind = W-weight; one = one; a = a; b = b; c = c }) y
-    unfolding weight-read index weight-of
+    unfolding weight-read index
     weight-passes h e =
-        let zeros = test-held (eqb one 0 && weights-below (last-weighting (d .weightings) .weights) a b) _ 2 e in
-        let place = test-held (is-place p a b) _ 3 (zeros .1) in
+        let zeros = test-held (eqb one 0 && weights-below (last-weighting (d .weightings) .weights) a b) _ _ e in
+        let place = test-held (is-place p a b) _ _ (zeros .1) in
         let one-zero : one ≡ 0 = eqb-true _ _ (and-left _ _ (zeros .0)) in
         rw (one-zero, ← (passed-same (place .1)))
         (reads-weight last cs d due this-weight h (and-right (eqb one 0) _ (zeros .0)) (place .0))
@@ -124,10 +120,10 @@ module _ (p : System) (y : Reading) (one a b c : ℕ) where
     marked-passes : may-follow last 9 due (has-weighting (some d)) ≡ true
         → marked-read p (record { kind = M-marked; one = one; a = a; b = b; c = c }) (going-on last cs d due) d ≡ passed y
         → Reads p (going-on last cs d due) (record { kind = M-marked; one = one; a = a; b = b; c = c }) y
-    unfolding marked-read index weight-of
+    unfolding marked-read index
     marked-passes h e =
-        let zeros = test-held (eqb one 0 && weights-below (last-weighting (d .weightings) .marked) a b) _ 2 e in
-        let place = test-held (is-place p a b && defined p a) _ 3 (zeros .1) in
+        let zeros = test-held (eqb one 0 && weights-below (last-weighting (d .weightings) .marked) a b) _ _ e in
+        let place = test-held (is-place p a b && defined p a) _ _ (zeros .1) in
         let one-zero : one ≡ 0 = eqb-true _ _ (and-left _ _ (zeros .0)) in
         rw (one-zero, ← (passed-same (place .1)))
         (reads-marked last cs d due this-weight h (and-right (eqb one 0) _ (zeros .0)) (and-left _ _ (place .0)) (and-right (is-place p a b) _ (place .0)))
@@ -136,24 +132,54 @@ module _ (p : System) (y : Reading) (one a b c : ℕ) where
 pub foreign : {C : Type 0} (row next due : ℕ) (weighted : Bool) → 5 ≤ row → row ≤ 10 → next < 5 → may-follow row next due weighted ≡ true → C
 foreign row next due weighted h k l e = absurd (may-follow-entry row next due weighted e (certificate-apart row next h k l))
 
-of-kind : (p : System) (last : ℕ) (cs : List Component) (begun : Option Component) (due : ℕ) (y : Reading) (k one a b c : ℕ) → Kind k → 5 ≤ last → last ≤ 10
-    → cert-step p (record { kind = k; one = one; a = a; b = b; c = c }) (record { last = last; done = cs; begun = begun; due = due }) ≡ passed y
-    → Reads p (record { last = last; done = cs; begun = begun; due = due }) (record { kind = k; one = one; a = a; b = b; c = c }) y
-unfolding cert-step index inside-read
-of-kind p last cs begun due y _ one a b c is-S l m e = foreign last 1 due _ l m (omega arith) (test-held _ _ 2 e .0)
-of-kind p last cs begun due y _ one a b c is-R l m e = foreign last 2 due _ l m (omega arith) (test-held _ _ 2 e .0)
-of-kind p last cs begun due y _ one a b c is-F l m e = foreign last 3 due _ l m (omega arith) (test-held _ _ 2 e .0)
-of-kind p last cs begun due y _ one a b c is-V l m e = foreign last 4 due _ l m (omega arith) (test-held _ _ 2 e .0)
-of-kind p last cs begun due y _ one a b c is-C l m e = let t = test-held _ _ 2 e in component-passes p y one a b c _ (t .0) (t .1)
-of-kind p last cs none due y _ one a b c is-P l m e = not-passed (test-held (may-follow last 7 due (has-weighting none)) (refused 2) 2 e .1)
-of-kind p last cs (some d) due y _ one a b c is-P l m e = let t = test-held _ _ 2 e in pair-passes p y one a b c last cs d due (t .0) (t .1)
-of-kind p last cs none due y _ one a b c is-W l m e = not-passed (test-held (may-follow last 8 due (has-weighting none)) (refused 2) 2 e .1)
-of-kind p last cs (some d) due y _ one a b c is-W l m e = let t = test-held _ _ 2 e in weight-passes p y one a b c last cs d due (t .0) (t .1)
-of-kind p last cs none due y _ one a b c is-M l m e = not-passed (test-held (may-follow last 9 due (has-weighting none)) (refused 2) 2 e .1)
-of-kind p last cs (some d) due y _ one a b c is-M l m e = let t = test-held _ _ 2 e in marked-passes p y one a b c last cs d due (t .0) (t .1)
-of-kind p last cs begun due y _ one a b c (is-other k i) l m e =
-    let h : may-follow last (index k) due (has-weighting begun) ≡ true = test-held _ _ 2 e .0 in
-    absurd (may-follow-entry last 10 due (has-weighting begun) (rw i at h) (other-nowhere last m))
+-- the kinds that may
+pub data Own-kind : ℕ → Type 0 where
+  own-C : Own-kind C-component
+  own-P : Own-kind P-pair
+  own-W : Own-kind W-weight
+  own-M : Own-kind M-marked
 
-pub passes-reads : (p : System) (x y : Reading) (r : Record) → 5 ≤ x .last → x .last ≤ 10 → cert-step p r x ≡ passed y → Reads p x r y
-passes-reads p x y r l m e = of-kind p (x .last) (x .done) (x .begun) (x .due) y (r .kind) (r .one) (r .a) (r .b) (r .c) (kind-of (r .kind)) l m e
+module _ (row due : ℕ) (weighted : Bool) (l : 5 ≤ row) (m : row ≤ 10) where
+  own-among : {k : ℕ} → Kind k → may-follow row (index k) due weighted ≡ true → Own-kind k
+  unfolding index
+  own-among is-S h = foreign row 1 due weighted l m (omega arith) h
+  own-among is-R h = foreign row 2 due weighted l m (omega arith) h
+  own-among is-F h = foreign row 3 due weighted l m (omega arith) h
+  own-among is-V h = foreign row 4 due weighted l m (omega arith) h
+  own-among is-C h = own-C
+  own-among is-P h = own-P
+  own-among is-W h = own-W
+  own-among is-M h = own-M
+  own-among (is-other k i) h = absurd (may-follow-entry row 10 due weighted (rw i at h) (other-nowhere row m))
+
+  pub own-kind : (k : ℕ) → may-follow row (index k) due weighted ≡ true → Own-kind k
+  own-kind k h = own-among (kind-of k) h
+
+module _ (p : System) (last : ℕ) (cs : List Component) (due : ℕ) (y : Certificate-reading) (one a b c : ℕ) where
+  of-kind : (begun : Option Component) (k : ℕ) → Own-kind k → may-follow last (index k) due (has-weighting begun) ≡ true
+      → cond (eqb k C-component) (component-read (record { kind = k; one = one; a = a; b = b; c = c }) (record { last = last; done = cs; begun = begun; due = due }))
+      (inside-read p (record { kind = k; one = one; a = a; b = b; c = c }) (record { last = last; done = cs; begun = begun; due = due }) begun)
+      ≡ passed y
+      → Reads p (record { last = last; done = cs; begun = begun; due = due }) (record { kind = k; one = one; a = a; b = b; c = c }) y
+  unfolding index inside-read
+  of-kind begun _ own-C h e = component-passes p y one a b c _ h e
+  of-kind none _ own-P h e = not-passed e
+  of-kind (some d) _ own-P h e = pair-passes p y one a b c last cs d due h e
+  of-kind none _ own-W h e = not-passed e
+  of-kind (some d) _ own-W h e = weight-passes p y one a b c last cs d due h e
+  of-kind none _ own-M h e = not-passed e
+  of-kind (some d) _ own-M h e = marked-passes p y one a b c last cs d due h e
+
+pub passes-reads : (p : System) (x y : Certificate-reading) (r : Record) → 5 ≤ x .last → x .last ≤ 10 → cert-step p r x ≡ passed y → Reads p x r y
+unfolding cert-step
+passes-reads p x y r l m e =
+    let t = test-held _ _ _ e in
+    of-kind p (x .last) (x .done) (x .due) y (r .one) (r .a) (r .b) (r .c) (x .begun) (r .kind) (own-kind (x .last) (x .due) (has-weighting (x .begun)) l m (r .kind) (t .0)) (t .0) (t .1)
+
+-- its row is the record's, and one of the certificate's
+pub reads-row : (p : System) {x y : Certificate-reading} {r : Record} → Reads p x r y → (y .last ≡ index (r .kind)) × (5 ≤ y .last) × (y .last ≤ 10)
+unfolding index pair-record
+reads-row p (reads-component x b n h k) = (refl, omega arith, omega arith)
+reads-row p (reads-pair last cs c due q h below is) = (refl, omega arith, omega arith)
+reads-row p (reads-weight last cs c due w h below place) = (refl, omega arith, omega arith)
+reads-row p (reads-marked last cs c due w h below place def) = (refl, omega arith, omega arith)

@@ -17,7 +17,7 @@ use Rattle.rewriting.proofs.Basics.{and-left, and-right, or-left-false, or-righ
 use Rattle.records.specs.declared.Record.{Record}
 use Rattle.records.specs.Outcomes.{passed}
 use Rattle.records.specs.Records.{a-record, all-records, all-record-bytes, length-bad, all-bytes}
-use Rattle.records.specs.Order.{C-component, W-weight, M-marked, order, lets, may-follow, certificate-edge}
+use Rattle.records.specs.Order.{C-component, W-weight, M-marked, entry, order, when-in, lets, may-follow, certificate-edge}
 use Rattle.records.specs.Rising.{last-below, rising}
 use Rattle.records.proofs.Outcomes.{passed-same, test-held, test-failed, after-passed}
 use Rattle.records.proofs.Bytes.{bytes-of-records, records-in-range}
@@ -25,7 +25,7 @@ use Rattle.pairs.specs.Listing.{pair-record, pair-records}
 use Rattle.polynomials.specs.Polynomials.{Weight, Weighting}
 use Rattle.polynomials.specs.Judging.{is-none}
 use Rattle.certificates.specs.Components.{Component, no-weighting, with-pair, last-weighting, on-last, add-weight, add-marked, with-weight, with-marked}
-use Rattle.certificates.specs.Reading.{Reading, going-on, most-bytes, with-begun, components-of, has-weighting, weights-below, cert-step, cert-end, cert-from, read-certificate}
+use Rattle.certificates.specs.CertificateReading.{Certificate-reading, going-on, most-certificate-bytes, with-begun, components-of, has-weighting, weights-below, cert-step, cert-end, cert-from, read-certificate}
 use Rattle.certificates.specs.Encoding.{weight-records, weighting-records, component-records, certificate-bytes, Good-certificate}
 use Rattle.certificates.proofs.Rising.{rising-snoc}
 use Rattle.certificates.proofs.OneRecord.{nothing-read, begun-with, Reads, reads-component, reads-pair, reads-weight, reads-marked, passes-reads}
@@ -36,19 +36,19 @@ use Rattle.certificates.proofs.Encoding.{weight-record, pair-records-sn
 -- WHAT HAS BEEN READ
 
 -- the component begun, of n pairs
-record Begun (p : System) (c : Component) (due n : ℕ) : Type 0 where
-  counted : length (c .pairs) + due ≡ n
-  counts : Counted (length (c .weightings)) n
-  in-order : In-order p c
+pub record Begun (p : System) (c : Component) (due n : ℕ) : Type 0 where
+  pub counted : length (c .pairs) + due ≡ n
+  pub counts : Counted (length (c .weightings)) n
+  pub in-order : In-order p c
 
-data So-far (p : System) : List Record → Reading → Type 0 where
-  at-start : So-far p [] nothing-read
+pub data Reached (p : System) : List Record → Certificate-reading → Type 0 where
+  at-start : Reached p [] nothing-read
   inside : (last : ℕ) (cs : List Component) (c : Component) (due n : ℕ) → Each (Shaped p) cs → Stage last c due → Begun p c due n
-      → So-far p (component-records 0 cs ++ records-of (length cs) n c) (going-on last cs c due)
+      → Reached p (component-records 0 cs ++ records-of (length cs) n c) (going-on last cs c due)
 
-so-far-row : (p : System) {rs : List Record} {x : Reading} → So-far p rs x → (5 ≤ x .last) × (x .last ≤ 10)
-so-far-row p at-start = omega arith
-so-far-row p (inside last cs c due n s st b) = stage-row st
+pub reached-row : (p : System) {rs : List Record} {x : Certificate-reading} → Reached p rs x → (5 ≤ x .last) × (x .last ≤ 10)
+reached-row p at-start = omega arith
+reached-row p (inside last cs c due n s st b) = stage-row st
 
 -- a component without pairs due is ended
 record Ended (p : System) (rs : List Record) (cs : List Component) : Type 0 where
@@ -68,7 +68,7 @@ ended p cs c n s b =
 
 module _ (p : System) where
   one-component : (rs : List Record) (cs : List Component) (b n : ℕ) → Ended p rs cs → Counted b n
-      → So-far p (rs ++ (a-record C-component (length cs) b n ∷ [])) (going-on 6 cs (begun-with b) n)
+      → Reached p (rs ++ (a-record C-component (length cs) b n ∷ [])) (going-on 6 cs (begun-with b) n)
   unfolding pair-records rising
   one-component rs cs b n e k =
       let fresh = fresh-by b (k .weightings-few) in
@@ -86,7 +86,7 @@ module _ (p : System) where
   one-pair : (cs : List Component) (qs : List Pair) (vs : List Weighting) (due n : ℕ) (q : Pair) → Each (Shaped p) cs → Fresh vs → 1 ≤ due
       → Begun p (record { pairs = qs; weightings = vs }) due n
       → last-below (λ q. q .at-rule) (λ q. q .place) qs (q .at-rule) (q .place) ≡ true → Is-pair p q
-      → So-far p ((component-records 0 cs ++ records-of (length cs) n (record { pairs = qs; weightings = vs })) ++ (pair-record q ∷ []))
+      → Reached p ((component-records 0 cs ++ records-of (length cs) n (record { pairs = qs; weightings = vs })) ++ (pair-record q ∷ []))
       (going-on 7 cs (record { pairs = qs ++ (q ∷ []); weightings = vs }) (due - 1))
   one-pair cs qs vs due n q s fresh still b below is =
       let counted = b .counted in
@@ -121,7 +121,7 @@ module _ (p : System) where
 
   one-weight : (cs : List Component) (qs : List Pair) (ws : List Weight) (n : ℕ) (w : Weight) → Each (Shaped p) cs → Begun p (weighted qs ws []) 0 n
       → weights-below ws (w .symbol) (w .place) ≡ true → At-place p w
-      → So-far p ((component-records 0 cs ++ records-of (length cs) n (weighted qs ws [])) ++ (weight-record W-weight w ∷ []))
+      → Reached p ((component-records 0 cs ++ records-of (length cs) n (weighted qs ws [])) ++ (weight-record W-weight w ∷ []))
       (going-on 8 cs (weighted qs (ws ++ (w ∷ [])) []) 0)
   unfolding weighting-records weight-records weights-below
   one-weight cs qs ws n w s b below place =
@@ -139,7 +139,7 @@ module _ (p : System) where
 
   one-marked : (cs : List Component) (qs : List Pair) (ws ms : List Weight) (n : ℕ) (w : Weight) → Each (Shaped p) cs → Begun p (weighted qs ws ms) 0 n
       → weights-below ms (w .symbol) (w .place) ≡ true → At-place p w → Of-defined p w
-      → So-far p ((component-records 0 cs ++ records-of (length cs) n (weighted qs ws ms)) ++ (weight-record M-marked w ∷ []))
+      → Reached p ((component-records 0 cs ++ records-of (length cs) n (weighted qs ws ms)) ++ (weight-record M-marked w ∷ []))
       (going-on 9 cs (weighted qs ws (ms ++ (w ∷ []))) 0)
   unfolding weighting-records weights-below
   one-marked cs qs ws ms n w s b below place def =
@@ -160,8 +160,8 @@ module _ (p : System) where
   none-due c due n h b = subst (λ (d : ℕ). Begun p c d n) (eqb-true due 0 (and-left _ true h)) b
 
   -- whichever record comes, by where the reading stands
-  one-more : {rs : List Record} {x y : Reading} {r : Record} → So-far p rs x → Reads p x r y → So-far p (rs ++ (r ∷ [])) y
-  unfolding components-of with-begun component-records may-follow order lets has-weighting is-none last-weighting on-last with-pair with-weight add-weight with-marked add-marked
+  pub one-more : {rs : List Record} {x y : Certificate-reading} {r : Record} → Reached p rs x → Reads p x r y → Reached p (rs ++ (r ∷ [])) y
+  unfolding components-of with-begun component-records may-follow entry order when-in lets has-weighting is-none last-weighting on-last with-pair with-weight add-weight with-marked add-marked
   one-more at-start (reads-component x b k h counts) = one-component [] [] b k (record { records = refl; shaped = each-nil }) counts
   one-more (inside last cs c due n s st b) (reads-component x i k h counts) =
       one-component _ _ i k (ended p cs c n s (subst (λ (d : ℕ). Begun p c d n) (due-at-component (has-weighting (some c)) st h) b)) counts
@@ -184,23 +184,23 @@ module _ (p : System) where
 
   -- TO THE END
 
-  at-end : {rs : List Record} {x : Reading} → So-far p rs x → (cs : List Component) → cert-end x ≡ passed cs → Ended p rs cs
+  at-end : {rs : List Record} {x : Certificate-reading} → Reached p rs x → (cs : List Component) → cert-end x ≡ passed cs → Ended p rs cs
   unfolding cert-end components-of with-begun component-records
   at-end at-start cs e =
-      subst (Ended p []) (passed-same (test-held (may-follow certificate-edge certificate-edge 0 (has-weighting none)) _ 2 e .1))
+      subst (Ended p []) (passed-same (test-held (may-follow certificate-edge certificate-edge 0 (has-weighting none)) _ _ e .1))
       (record { records = refl; shaped = each-nil })
   at-end (inside last ds c due n s st b) cs e =
-      let t = test-held (may-follow last certificate-edge due (has-weighting (some c))) _ 2 e in
+      let t = test-held (may-follow last certificate-edge due (has-weighting (some c))) _ _ e in
       let all = due-at-end (has-weighting (some c)) st (t .0) in
       subst (Ended p _) (passed-same (t .1)) (ended p ds c n s (subst (λ (d : ℕ). Begun p c d n) all b))
 
-  from-there : (rs before : List Record) (x : Reading) (cs : List Component) → So-far p before x → cert-from p rs x ≡ passed cs → Ended p (before ++ rs) cs
+  from-there : (rs before : List Record) (x : Certificate-reading) (cs : List Component) → Reached p before x → cert-from p rs x ≡ passed cs → Ended p (before ++ rs) cs
   unfolding cert-from
   from-there [] before x cs so e = rw append-nil (at-end so cs e)
   from-there (r ∷ rs) before x cs so e =
       let step = after-passed (cert-step p r x) _ e in
-      let y : Reading = step .0 in
-      let row = so-far-row p so in
+      let y : Certificate-reading = step .0 in
+      let row = reached-row p so in
       let all = from-there rs (before ++ (r ∷ [])) y cs (one-more so (passes-reads p x y r (row .0) (row .1) (step .1))) (step .2) in
       rw append-snoc at all
 
@@ -214,10 +214,10 @@ module _ (p : System) (rs : List Record) (cs : List Component)
   records-shaped = from-there p rs [] _ cs at-start e .shaped
 
 module _ (p : System) (ds : List ℕ) (cs : List Component) (e : read-certificate p ds ≡ passed cs) where
-  read-parts : (length-bad most-bytes ds ≡ false)
+  read-parts : (length-bad most-certificate-bytes ds ≡ false)
       × (cert-from p (all-records ds) nothing-read ≡ passed cs)
   unfolding read-certificate
-  read-parts = test-failed (length-bad most-bytes ds) _ 1 e
+  read-parts = test-failed (length-bad most-certificate-bytes ds) _ 1 e
 
   -- the records of the file, one for one
   pub certificate-read : all-records ds ≡ component-records 0 cs
@@ -227,16 +227,16 @@ module _ (p : System) (ds : List ℕ) (cs : List Component) (e : read-certificat
   pub certificate-shaped : Each (Shaped p) cs
   certificate-shaped = records-shaped p (all-records ds) cs (read-parts .1)
 
-  pub length-within : length ds ≤ most-bytes
+  pub length-within : length ds ≤ most-certificate-bytes
   unfolding length-bad
-  length-within = ltb-false most-bytes (length ds) (or-left-false _ _ (read-parts .0))
+  length-within = ltb-false most-certificate-bytes (length ds) (or-left-false _ _ (read-parts .0))
 
   length-whole : length ds % 8 ≡ 0
   unfolding length-bad
-  length-whole = eqb-true _ _ (not-false _ (or-right-false (ltb most-bytes (length ds)) _ (read-parts .0)))
+  length-whole = eqb-true _ _ (not-false _ (or-right-false (ltb most-certificate-bytes (length ds)) _ (read-parts .0)))
 
 pub only-encodings : (p : System) (ds : List ℕ) (cs : List Component) → all-bytes ds ≡ true → read-certificate p ds ≡ passed cs
-    → (ds ≡ certificate-bytes cs) × Good-certificate p cs × (length ds ≤ most-bytes)
+    → (ds ≡ certificate-bytes cs) × Good-certificate p cs × (length ds ≤ most-certificate-bytes)
 unfolding certificate-bytes
 only-encodings p ds cs bytes e =
     let read = certificate-read p ds cs e in

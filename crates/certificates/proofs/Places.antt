@@ -5,17 +5,17 @@ use mathlib.Core.List.{List, [], _∷_}
 use mathlib.Core.Option.{some}
 use Prim.Native.Nat.{ℕ, zero, suc, _≤_}
 use native.Mathlib.Omega.{arith}
-use lib.ListN.{replicate}
+use lib.ListN.{length, replicate}
 use borrow.Author.Tests.{eqb-true}
 use Rattle.rewriting.specs.Terms.{System}
 use Rattle.rewriting.specs.Pairs.{Pair}
 use Rattle.rewriting.proofs.Basics.{Each, each-nil, each-cons}
 use Rattle.records.specs.Outcomes.{passed}
-use Rattle.records.specs.Order.{order, lets, may-follow, certificate-edge}
+use Rattle.records.specs.Order.{entry, order, when-in, lets, may-follow, certificate-edge}
 use Rattle.records.specs.Rising.{rising}
 use Rattle.polynomials.specs.Polynomials.{Weight, Weighting}
 use Rattle.certificates.specs.Components.{Component, no-weighting}
-use Rattle.certificates.specs.Reading.{Reading, going-on, most-weightings, components-of, has-weighting, cert-end}
+use Rattle.certificates.specs.CertificateReading.{Certificate-reading, going-on, most-weightings, components-of, has-weighting, cert-end}
 use Rattle.certificates.specs.Encoding.{weight-records, weighting-records}
 use Rattle.certificates.proofs.OneRecord.{nothing-read}
 use Rattle.certificates.proofs.Shapes.{Weighting-shaped}
@@ -33,35 +33,35 @@ pub data Whole : ℕ → Type 0 where
   ends-in-marked : Whole 9
 
 whole-component : {last : ℕ} → Whole last → (weighted : Bool) → may-follow last 6 0 weighted ≡ true
-unfolding may-follow order lets
+unfolding may-follow entry order when-in lets
 whole-component ends-in-pair w = refl
 whole-component ends-in-weight w = refl
 whole-component ends-in-marked w = refl
 
 whole-end : {last : ℕ} → Whole last → (weighted : Bool) → may-follow last certificate-edge 0 weighted ≡ true
-unfolding may-follow order lets
+unfolding may-follow entry order when-in lets
 whole-end ends-in-pair w = refl
 whole-end ends-in-weight w = refl
 whole-end ends-in-marked w = refl
 
 pub whole-marked : {last : ℕ} → Whole last → may-follow last 9 0 true ≡ true
-unfolding may-follow order lets
+unfolding may-follow entry order when-in lets
 whole-marked ends-in-pair = refl
 whole-marked ends-in-weight = refl
 whole-marked ends-in-marked = refl
 
 -- between components: at the start, or where one is whole
-pub data Ready : Reading → Type 0 where
+pub data Ready : Certificate-reading → Type 0 where
   at-start : Ready nothing-read
   at-whole : (last : ℕ) (cs : List Component) (c : Component) → Whole last → Ready (going-on last cs c 0)
 
-pub ready-component : {x : Reading} → Ready x → may-follow (x .last) 6 (x .due) (has-weighting (x .begun)) ≡ true
-unfolding may-follow order lets
+pub ready-component : {x : Certificate-reading} → Ready x → may-follow (x .last) 6 (x .due) (has-weighting (x .begun)) ≡ true
+unfolding may-follow entry order when-in lets
 ready-component at-start = refl
 ready-component (at-whole last cs c w) = whole-component w (has-weighting (some c))
 
-pub ready-end : {x : Reading} → Ready x → cert-end x ≡ passed (components-of x)
-unfolding cert-end may-follow order lets
+pub ready-end : {x : Certificate-reading} → Ready x → cert-end x ≡ passed (components-of x)
+unfolding cert-end may-follow entry order when-in lets
 ready-end at-start = refl
 ready-end (at-whole last cs c w) = rw (whole-end w (has-weighting (some c)))
 
@@ -81,6 +81,11 @@ pub fresh-records : {vs : List Weighting} → Fresh vs → weighting-records vs 
 unfolding weighting-records weight-records
 fresh-records no-weightings = refl
 fresh-records one-weighting = refl
+
+-- as the C record left them
+pub fresh-again : {vs : List Weighting} → Fresh vs → vs ≡ replicate (length vs) no-weighting
+fresh-again no-weightings = refl
+fresh-again one-weighting = refl
 
 no-weights-shaped : (p : System) → Weighting-shaped p no-weighting
 unfolding rising
@@ -104,16 +109,23 @@ stage-row (after-pair qs vs due f) = omega arith
 stage-row (after-weight qs ws) = omega arith
 stage-row (after-marked qs ws ms) = omega arith
 
+-- while pairs are due no weight has been read
+pub stage-fresh : {last : ℕ} {c : Component} {due : ℕ} → Stage last c due → 1 ≤ due → Fresh (c .weightings)
+stage-fresh (after-component vs due f h) still = f
+stage-fresh (after-pair qs vs due f) still = f
+stage-fresh (after-weight qs ws) still = absurd (omega arith)
+stage-fresh (after-marked qs ws ms) still = absurd (omega arith)
+
 -- the end and the next component come when no pair is due
 pub due-at-end : {last : ℕ} {c : Component} {due : ℕ} (weighted : Bool) → Stage last c due → may-follow last certificate-edge due weighted ≡ true → due ≡ 0
-unfolding may-follow order lets
+unfolding may-follow entry order when-in lets
 due-at-end w (after-component vs due f h) m = absurd (false≢true m)
 due-at-end w (after-pair qs vs due f) m = eqb-true due 0 m
 due-at-end w (after-weight qs ws) m = refl
 due-at-end w (after-marked qs ws ms) m = refl
 
 pub due-at-component : {last : ℕ} {c : Component} {due : ℕ} (weighted : Bool) → Stage last c due → may-follow last 6 due weighted ≡ true → due ≡ 0
-unfolding may-follow order lets
+unfolding may-follow entry order when-in lets
 due-at-component w (after-component vs due f h) m = absurd (false≢true m)
 due-at-component w (after-pair qs vs due f) m = eqb-true due 0 m
 due-at-component w (after-weight qs ws) m = refl

@@ -4,9 +4,10 @@ use mathlib.Core.Path.{_≡_, refl, sym, _∙_}
 use mathlib.Core.Bool.{Bool, true, false, cond}
 use mathlib.Core.List.{List, [], _∷_, _++_}
 use mathlib.Core.Option.{Option, none, some}
-use Prim.Native.Nat.{ℕ, _%_, _≤_}
+use Prim.Native.Nat.{ℕ, _%_, _≤_, _<_}
 use native.Mathlib.Omega.{arith}
 use lib.ListN.{length}
+use borrow.Author.Tests.{lt-ltb}
 use Rattle.rewriting.specs.Terms.{System}
 use Rattle.rewriting.specs.Systems.{member}
 use Rattle.rewriting.proofs.Basics.{and-both}
@@ -17,10 +18,9 @@ use Rattle.records.specs.Order.{index, certificate-edge, obeys}
 use Rattle.records.proofs.Outcomes.{test-held, test-failed, after-passed, after-same, after-after, Refused-within, test-within, refusal-within, wider, within}
 use Rattle.records.proofs.Bytes.{records-append}
 use Rattle.records.proofs.Table.{may-follow-stands}
-use Rattle.pairs.specs.Listing.{pair-record}
 use Rattle.certificates.specs.Components.{Component}
-use Rattle.certificates.specs.Reading.{Reading, most-bytes, has-weighting, component-read, pair-read, weight-read, marked-read, inside-read, cert-step, cert-end, cert-from, cert-steps, read-certificate}
-use Rattle.certificates.proofs.OneRecord.{nothing-read, Reads, reads-component, reads-pair, reads-weight, reads-marked, passes-reads}
+use Rattle.certificates.specs.CertificateReading.{Certificate-reading, most-certificate-bytes, has-weighting, component-read, pair-read, weight-read, marked-read, inside-read, cert-step, cert-end, cert-from, cert-steps, read-certificate}
+use Rattle.certificates.proofs.OneRecord.{nothing-read, passes-reads, reads-row}
 
 -- THE NUMBERS
 
@@ -43,7 +43,7 @@ after-in-table _ k (not-refused x) f = f x
 -- `search tabled` proves of a reading made of tests and readings that its refusals are in the table
 ruleset tabled = (test-in-table, after-in-table, stray-record, out-of-range, no-such-pair, not-refused)
 
-module _ (p : System) (r : Record) (x : Reading) where
+module _ (p : System) (r : Record) (x : Certificate-reading) where
   component-tabled : In-table (component-read r x)
   unfolding component-read
   component-tabled = search tabled
@@ -69,11 +69,11 @@ module _ (p : System) (r : Record) (x : Reading) where
   unfolding cert-step
   step-tabled = search (tabled, component-tabled, inside-tabled)
 
-end-tabled : (x : Reading) → In-table (cert-end x)
+end-tabled : (x : Certificate-reading) → In-table (cert-end x)
 unfolding cert-end
 end-tabled x = search tabled
 
-from-tabled : (p : System) (rs : List Record) (x : Reading) → In-table (cert-from p rs x)
+from-tabled : (p : System) (rs : List Record) (x : Certificate-reading) → In-table (cert-from p rs x)
 unfolding cert-from
 from-tabled p [] x = end-tabled x
 from-tabled p (r ∷ rs) x = after-in-table (cert-step p r x) _ (step-tabled p r x) (λ y. from-tabled p rs y)
@@ -93,67 +93,65 @@ in-table-number false no-such-pair = refl
 in-table-number false (not-refused x) = refl
 
 module _ (p : System) (ds : List ℕ) where
-  -- 1 is given for the length alone
-  pub length-first : length-bad most-bytes ds ≡ false → Refused-within 2 7 (read-certificate p ds)
+  -- 1 is given for the length
+  pub certificate-too-long : 24576 < length ds → read-certificate p ds ≡ refused 1
+  unfolding read-certificate length-bad
+  certificate-too-long h = rw (lt-ltb 24576 (length ds) h)
+
+  -- and for nothing else
+  pub length-first : length-bad most-certificate-bytes ds ≡ false → Refused-within 2 7 (read-certificate p ds)
   unfolding read-certificate
   length-first h = rw h (in-table-within (from-tabled p (all-records ds) _))
 
   -- if refused, then with a number from 1 to 7, so that 0 is no refusal
   pub read-range : Refused-within 1 7 (read-certificate p ds)
   unfolding read-certificate
-  read-range = test-within (length-bad most-bytes ds) (refused 1) _ (search within) (wider (in-table-within (from-tabled p (all-records ds) _)))
+  read-range = test-within (length-bad most-certificate-bytes ds) (refused 1) _ (search within) (wider (in-table-within (from-tabled p (all-records ds) _)))
 
   pub certificate-refusal-range : refusal (read-certificate p ds) ≤ 7
   certificate-refusal-range = refusal-within read-range
 
   pub certificate-refusals : member (refusal (read-certificate p ds)) (0 ∷ 1 ∷ 2 ∷ 3 ∷ 7 ∷ []) ≡ true
   unfolding read-certificate
-  certificate-refusals = in-table-number (length-bad most-bytes ds) (from-tabled p (all-records ds) _)
+  certificate-refusals = in-table-number (length-bad most-certificate-bytes ds) (from-tabled p (all-records ds) _)
 
 -- A REFUSAL STANDS whatever follows the record at which it was met
 
 module _ (p : System) where
   -- the records, then the end
-  pub from-steps : (rs : List Record) (x : Reading) → cert-from p rs x ≡ after (cert-steps p rs x) cert-end
+  pub from-steps : (rs : List Record) (x : Certificate-reading) → cert-from p rs x ≡ after (cert-steps p rs x) cert-end
   unfolding cert-from cert-steps
   from-steps [] x = refl
   from-steps (r ∷ rs) x = after-same (cert-step p r x) _ _ (from-steps rs) ∙ sym (after-after (cert-step p r x) _ cert-end)
 
-  pub steps-append : (rs more : List Record) (x : Reading) → cert-steps p (rs ++ more) x ≡ after (cert-steps p rs x) (cert-steps p more)
+  pub steps-append : (rs more : List Record) (x : Certificate-reading) → cert-steps p (rs ++ more) x ≡ after (cert-steps p rs x) (cert-steps p more)
   unfolding cert-steps
   steps-append [] more x = refl
   steps-append (r ∷ rs) more x = after-same (cert-step p r x) _ _ (steps-append rs more) ∙ sym (after-after (cert-step p r x) _ (cert-steps p more))
 
-  pub refusal-stands : (rs more : List Record) (x : Reading) (n : ℕ) → cert-steps p rs x ≡ refused n → cert-from p (rs ++ more) x ≡ refused n
+  pub refusal-stands : (rs more : List Record) (x : Certificate-reading) (n : ℕ) → cert-steps p rs x ≡ refused n → cert-from p (rs ++ more) x ≡ refused n
   refusal-stands rs more x n e = from-steps (rs ++ more) x ∙ rw (steps-append rs more x, e)
 
   -- in bytes: a file of whole records that is refused within itself is refused so with whatever after it, the length allowing
-  pub read-stands : (ds more : List ℕ) (n : ℕ) → length ds % 8 ≡ 0 → length-bad most-bytes (ds ++ more) ≡ false
+  pub read-stands : (ds more : List ℕ) (n : ℕ) → length ds % 8 ≡ 0 → length-bad most-certificate-bytes (ds ++ more) ≡ false
       → cert-steps p (all-records ds) nothing-read ≡ refused n → read-certificate p (ds ++ more) ≡ refused n
   unfolding read-certificate
   read-stands ds more n whole short e = rw (short, records-append ds more whole) (refusal-stands (all-records ds) (all-records more) _ n e)
 
   -- A CERTIFICATE THAT PASSES OBEYS THE TABLE
 
-  reads-row : {x y : Reading} {r : Record} → Reads p x r y → (y .last ≡ index (r .kind)) × (5 ≤ y .last) × (y .last ≤ 10)
-  unfolding index pair-record
-  reads-row (reads-component x b n h k) = (refl, omega arith, omega arith)
-  reads-row (reads-pair last cs c due q h below is) = (refl, omega arith, omega arith)
-  reads-row (reads-weight last cs c due w h below place) = (refl, omega arith, omega arith)
-  reads-row (reads-marked last cs c due w h below place def) = (refl, omega arith, omega arith)
-
-  pub records-obey : (rs : List Record) (x : Reading) (cs : List Component) → 5 ≤ x .last → x .last ≤ 10 → cert-from p rs x ≡ passed cs
+  pub records-obey : (rs : List Record) (x : Certificate-reading) (cs : List Component) → 5 ≤ x .last → x .last ≤ 10 → cert-from p rs x ≡ passed cs
       → obeys (x .last) certificate-edge rs ≡ true
   unfolding cert-from cert-end cert-step obeys
-  records-obey [] x cs l m e = may-follow-stands (x .last) certificate-edge (x .due) (has-weighting (x .begun)) (test-held _ _ 2 e .0)
+  records-obey [] x cs l m e = may-follow-stands (x .last) certificate-edge (x .due) (has-weighting (x .begun)) (test-held _ _ _ e .0)
   records-obey (r ∷ rs) x cs l m e =
       let step = after-passed (cert-step p r x) _ e in
-      let y : Reading = step .0 in
-      let next = reads-row (passes-reads p x y r l m (step .1)) in
+      let y : Certificate-reading = step .0 in
+      let next = reads-row p (passes-reads p x y r l m (step .1)) in
       and-both
-      (may-follow-stands (x .last) (index (r .kind)) (x .due) (has-weighting (x .begun)) (test-held _ _ 2 (step .1) .0))
+      (may-follow-stands (x .last) (index (r .kind)) (x .due) (has-weighting (x .begun)) (test-held _ _ _ (step .1) .0))
       (rw (next .0) at (records-obey rs y cs (next .1) (next .2) (step .2)))
 
   pub certificates-obey : (ds : List ℕ) (cs : List Component) → read-certificate p ds ≡ passed cs → obeys certificate-edge certificate-edge (all-records ds) ≡ true
   unfolding read-certificate
-  certificates-obey ds cs e = records-obey (all-records ds) _ cs (omega arith) (omega arith) (test-failed (length-bad most-bytes ds) _ 1 e .1)
+  certificates-obey ds cs e = records-obey (all-records ds) _ cs (omega arith) (omega arith) (test-failed (length-bad most-certificate-bytes ds) _ 1 e .1)

@@ -5,16 +5,15 @@ use mathlib.Core.Bool.{true}
 use mathlib.Core.List.{List}
 use Prim.Native.Nat.{ℕ, _≤_, _<_}
 use lib.Dec.{ltb}
-use lib.ListN.{length}
+use lib.ListN.{length, getD}
 use borrow.Author.Tests.{ltb-true, lt-ltb, leb-true, le-leb}
 use Rattle.rewriting.specs.Terms.{System}
 use Rattle.rewriting.specs.Pairs.{Pair, is-pair, defined}
 use Rattle.rewriting.proofs.Basics.{and-left, and-right, and-both, Each, each-nil, each-cons, each-head, each-tail, each-at, each-by, each-map}
-use Rattle.records.specs.Rising.{rising}
 use Rattle.pairs.specs.Listing.{a-pair}
 use Rattle.polynomials.specs.Polynomials.{Weight, Weighting}
-use Rattle.certificates.specs.Components.{Component, no-component, no-weighting}
-use Rattle.certificates.specs.Reading.{most-pairs, most-weightings, is-place}
+use Rattle.certificates.specs.Components.{Component, no-component, no-weighting, Pairs-rise, Weights-rise}
+use Rattle.certificates.specs.CertificateReading.{most-pairs, most-weightings, is-place}
 use Rattle.certificates.specs.Encoding.{no-weight, Placed, Good-weighting, Good-component, Good-certificate}
 
 -- the counts that a C record may bear: so many weightings, so many pairs
@@ -23,13 +22,6 @@ pub record Counted (b n : ℕ) : Type 0 where
   pub pairs-some : 1 ≤ n
   pub pairs-few : n ≤ most-pairs
   pub alone : b ≡ 0 → n ≡ 1
-
--- by rule and place; by symbol and place
-abbrev pub Pairs-rise : List Pair → Type 0
-Pairs-rise qs = rising (λ q. q .at-rule) (λ q. q .place) qs ≡ true
-
-abbrev pub Weights-rise : List Weight → Type 0
-Weights-rise ws = rising (λ w. w .symbol) (λ w. w .place) ws ≡ true
 
 abbrev pub Is-pair : System → Pair → Type 0
 Is-pair p q = is-pair p q ≡ true
@@ -117,16 +109,24 @@ module _ (p : System) where
         marked-defined = each-at no-weight (s .marked-defined);
       }
 
+  pub weightings-by : (vs : List Weighting) → Each (Weighting-shaped p) vs → Each Values-fit vs → (k : ℕ) → k < length vs
+      → Good-weighting p (getD vs k no-weighting)
+  weightings-by vs s f = each-at no-weighting (each-with weighting-good s f)
+
+  pub in-order-by : (c : Component) → Pairs-rise (c .pairs) → ((k : ℕ) → k < length (c .pairs) → Is-pair p (getD (c .pairs) k (a-pair 0 0)))
+      → ((k : ℕ) → k < length (c .weightings) → Good-weighting p (getD (c .weightings) k no-weighting)) → In-order p c
+  in-order-by c rise are good =
+      record {
+        pairs-rise = rise;
+        are-pairs = each-by (a-pair 0 0) (c .pairs) are;
+        weightings-shaped = each-map weighting-shaped (each-by no-weighting (c .weightings) good);
+      }
+
   good-shaped : (c : Component) → Good-component p c → Shaped p c
   good-shaped c g =
       record {
         counts = record { weightings-few = g .weightings-few; pairs-some = g .pairs-some; pairs-few = g .pairs-few; alone = g .alone };
-        in-order =
-            record {
-              pairs-rise = g .pairs-rise;
-              are-pairs = each-by (a-pair 0 0) (c .pairs) (g .are-pairs);
-              weightings-shaped = each-map weighting-shaped (each-by no-weighting (c .weightings) (g .weightings-good));
-            };
+        in-order = in-order-by c (g .pairs-rise) (g .are-pairs) (g .weightings-good);
       }
 
   good-fits : (c : Component) → Good-component p c → Component-fits c
@@ -141,7 +141,7 @@ module _ (p : System) where
         alone = s .counts .alone;
         pairs-rise = s .in-order .pairs-rise;
         are-pairs = each-at (a-pair 0 0) (s .in-order .are-pairs);
-        weightings-good = each-at no-weighting (each-with weighting-good (s .in-order .weightings-shaped) f);
+        weightings-good = weightings-by (c .weightings) (s .in-order .weightings-shaped) f;
       }
 
   module _ (cs : List Component) where

@@ -1,7 +1,10 @@
 -- A certificate is a list of components.
+use mathlib.Core.Path.{_≡_}
+use mathlib.Core.Bool.{true}
 use mathlib.Core.List.{List, [], _∷_, _++_}
-use Prim.Native.Nat.{ℕ}
 use Rattle.rewriting.specs.Pairs.{Pair}
+use Rattle.records.specs.declared.Record.{Record}
+use Rattle.records.specs.Rising.{rising}
 use Rattle.polynomials.specs.Polynomials.{Weight, Weighting}
 
 -- pairs, and the weightings (none, or one) under which they are judged
@@ -40,3 +43,14 @@ with-weight c x = record { pairs = c .pairs; weightings = on-last (add-weight x)
 
 unfoldable pub with-marked : Component → Weight → Component
 with-marked c x = record { pairs = c .pairs; weightings = on-last (add-marked x) (c .weightings) }
+
+-- a W or M record's weight
+abbrev pub weight-of : Record → Weight
+weight-of r = record { symbol = r .a; place = r .b; value = r .c }
+
+-- P records of one component rise by rule and place, W and M records by symbol and place
+abbrev pub Pairs-rise : List Pair → Type 0
+Pairs-rise qs = rising (λ q. q .at-rule) (λ q. q .place) qs ≡ true
+
+abbrev pub Weights-rise : List Weight → Type 0
+Weights-rise ws = rising (λ w. w .symbol) (λ w. w .place) ws ≡ true

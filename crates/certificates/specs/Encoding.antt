@@ -1,18 +1,17 @@
 -- The way back: the bytes of a certificate, and which components can be written.
 use mathlib.Core.Path.{_≡_}
-use mathlib.Core.Bool.{Bool, true, false}
+use mathlib.Core.Bool.{true}
 use mathlib.Core.List.{List, [], _∷_, _++_}
-use Prim.Native.Nat.{ℕ, zero, suc, _≤_, _<_}
+use Prim.Native.Nat.{ℕ, suc, _≤_, _<_}
 use lib.ListN.{length, getD}
 use Rattle.rewriting.specs.Terms.{System}
-use Rattle.rewriting.specs.Pairs.{Pair, is-pair, defined}
+use Rattle.rewriting.specs.Pairs.{is-pair, defined}
 use Rattle.records.specs.declared.Record.{Record}
 use Rattle.records.specs.Records.{a-record, all-record-bytes}
 use Rattle.records.specs.Order.{C-component, W-weight, M-marked}
-use Rattle.records.specs.Rising.{rising}
 use Rattle.pairs.specs.Listing.{a-pair, pair-records}
 use Rattle.polynomials.specs.Polynomials.{Weight, Weighting}
-use Rattle.certificates.specs.Components.{Component, no-component, no-weighting}
+use Rattle.certificates.specs.Components.{Component, no-component, no-weighting, Pairs-rise, Weights-rise}
 
 unfoldable pub weight-records : (kind : ℕ) → List Weight → List Record
 weight-records k [] = []
@@ -42,8 +41,8 @@ pub record Placed (p : System) (w : Weight) : Type 0 where
   pub value-fits : w .value < 65536
 
 pub record Good-weighting (p : System) (w : Weighting) : Type 0 where
-  pub weights-rise : rising (λ x. x .symbol) (λ x. x .place) (w .weights) ≡ true
-  pub marked-rise : rising (λ x. x .symbol) (λ x. x .place) (w .marked) ≡ true
+  pub weights-rise : Weights-rise (w .weights)
+  pub marked-rise : Weights-rise (w .marked)
   pub weights-placed : (k : ℕ) → k < length (w .weights) → Placed p (getD (w .weights) k no-weight)
   pub marked-placed : (k : ℕ) → k < length (w .marked) → Placed p (getD (w .marked) k no-weight)
   pub marked-defined : (k : ℕ) → k < length (w .marked) → defined p (getD (w .marked) k no-weight .symbol) ≡ true
@@ -54,7 +53,7 @@ pub record Good-component (p : System) (c : Component) : Type 0 where
   pub pairs-some : 1 ≤ length (c .pairs)
   pub pairs-few : length (c .pairs) ≤ 2048
   pub alone : length (c .weightings) ≡ 0 → length (c .pairs) ≡ 1
-  pub pairs-rise : rising (λ q. q .at-rule) (λ q. q .place) (c .pairs) ≡ true
+  pub pairs-rise : Pairs-rise (c .pairs)
   pub are-pairs : (k : ℕ) → k < length (c .pairs) → is-pair p (getD (c .pairs) k (a-pair 0 0)) ≡ true
   pub weightings-good : (k : ℕ) → k < length (c .weightings) → Good-weighting p (getD (c .weightings) k no-weighting)
 

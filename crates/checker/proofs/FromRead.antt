@@ -1,29 +1,22 @@
 -- What a certificate that was read brings to the judging: components that can be weighed.
-use mathlib.Core.Path.{_≡_, refl, sym, ap, subst, _∙_}
-use mathlib.Core.Bool.{Bool, true, false, _&&_}
-use mathlib.Core.List.{List, [], _∷_, List·Memᴰ, List·Memᴰ·head, List·Memᴰ·tail}
-use Prim.Native.Nat.{ℕ, zero, suc, _*_, _/_, _≤_, _<_}
+use mathlib.Core.Path.{_≡_, subst}
+use mathlib.Core.List.{List, _∷_}
+use Prim.Native.Nat.{ℕ, _<_}
 use native.Mathlib.Omega.{arith}
-use lib.Dec.{ltb, leb}
+use lib.Dec.{ltb}
 use lib.ListN.{length, getD}
 use borrow.Author.Tests.{ltb-true, leb-true}
-use Rattle.rewriting.specs.Terms.{System, rule}
-use Rattle.rewriting.specs.Pairs.{Pair, is-pair, subterms}
-use Rattle.rewriting.proofs.Basics.{and-left, and-right, Each, each-nil, each-cons, each-head, each-at}
-use Rattle.rewriting.proofs.Pairs.{pair-rule, pair-place}
+use Rattle.rewriting.specs.Terms.{System}
+use Rattle.rewriting.proofs.Basics.{and-left, and-right, Each, each-head, each-at}
 use Rattle.records.specs.Outcomes.{passed}
-use Rattle.records.proofs.Bytes.{length-of-records}
-use Rattle.terms.proofs.Parsing.{length-flat}
 use Rattle.packs.specs.Encoding.{Good-pack}
-use Rattle.pack_reader.specs.Stored.{Stored}
 use Rattle.pairs.specs.Listing.{a-pair}
 use Rattle.polynomials.specs.Polynomials.{Weight, Weighting}
-use Rattle.certificates.specs.Components.{Component, no-component, no-weighting}
-use Rattle.certificates.specs.Reading.{read-certificate, is-place}
+use Rattle.certificates.specs.Components.{Component, no-component, Weights-rise}
+use Rattle.certificates.specs.CertificateReading.{read-certificate, is-place}
 use Rattle.certificates.specs.Encoding.{no-weight}
-use Rattle.certificates.proofs.Shapes.{Shaped, Weighting-shaped, Weights-rise, At-place}
-use Rattle.certificates.proofs.Encoding.{components-few}
-use Rattle.certificates.proofs.OnlyEncodings.{certificate-shaped, certificate-read, length-within}
+use Rattle.certificates.proofs.Shapes.{Weighting-shaped, At-place}
+use Rattle.certificates.proofs.OnlyEncodings.{certificate-read}
 use Rattle.judging.specs.Shown.{nth}
 use Rattle.partition.specs.Working.{All-pairs, Judgeable}
 use Rattle.partition.proofs.FromRead.{shape}

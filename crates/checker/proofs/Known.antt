@@ -9,7 +9,7 @@ use lib.ListN.{length, replicate}
 use borrow.Author.Tests.{eq-eqb, ne-eqb}
 use Rattle.rewriting.specs.Terms.{System, Rule}
 use Rattle.records.specs.declared.Answer.{Answer}
-use Rattle.records.specs.Answers.{outcome-of}
+use Rattle.records.specs.Answers.{answer-outcome}
 use Rattle.records.specs.Order.{W-weight, M-marked}
 use Rattle.weights.specs.declared.Verdict.{Verdict}
 use Rattle.weights.specs.declared.Verdict.the-variants.{Holds}
@@ -100,7 +100,7 @@ module _
 
     -- what the two verdicts come to
     pub judged : {x : Verdict} → x ≡ rules-verdict p (w .weights) (w .marked) → (r : Answer) →
-        outcome-of r ≡ chosen x (calls-verdict p (c .pairs) (w .weights) (w .marked)) (middle + length (w .marked)) → Component-judged p c at r
+        answer-outcome r ≡ chosen x (calls-verdict p (c .pairs) (w .weights) (w .marked)) (middle + length (w .marked)) → Component-judged p c at r
     unfolding Component-judged rules-verdict calls-verdict
     judged f r e = rw (number, ← counted) (e ∙ rw f (chosen-number w (p .rules) (calls p (c .pairs)) (middle + length (w .marked))))
 

@@ -14,17 +14,13 @@ use Rattle.records.specs.Records.{a-record, record-at, all-records}
 use Rattle.records.specs.Order.{C-component, W-weight, M-marked}
 use Rattle.records.proofs.Bytes.{drop-records, length-of-records}
 use Rattle.pairs.specs.Listing.{a-pair, pair-record, pair-records}
+use Rattle.pairs.proofs.Answering.{pair-records-long}
 use Rattle.polynomials.specs.Polynomials.{Weight, Weighting}
 use Rattle.certificates.specs.Components.{Component}
 use Rattle.certificates.specs.Encoding.{weight-records, weighting-records, component-records}
 use Rattle.checker.specs.Working.{Component-at, Component-fits, Weights-at, Pairs-at, weight-count, record-count}
 
 -- HOW MANY there are
-
-pair-records-long : (qs : List Pair) → length (pair-records qs) ≡ length qs
-unfolding pair-records
-pair-records-long [] = refl
-pair-records-long (q ∷ qs) = ap suc (pair-records-long qs)
 
 weight-records-long : (k : ℕ) (ws : List Weight) → length (weight-records k ws) ≡ length ws
 unfolding weight-records

@@ -14,7 +14,7 @@ use Rattle.records.specs.Outcomes.{Outcome, refused, passed, refusal}
 use Rattle.records.specs.Order.{W-weight}
 use Rattle.records.specs.Records.{all-records}
 use Rattle.records.specs.Rising.{rising}
-use Rattle.records.specs.Answers.{outcome-of}
+use Rattle.records.specs.Answers.{answer-outcome}
 use Rattle.pack_reader.specs.Stored.{Stored}
 use Rattle.pairs.specs.Listing.{pair-records}
 use Rattle.polynomials.specs.Polynomials.{Weight, Weighting}
@@ -30,7 +30,7 @@ use Rattle.judging.specs.Judge.{plain, calls, component-refusal}
 
 -- what judging answers: the number, 0 for none
 unfoldable pub Judged-as : (number : ℕ) → Answer → Type 0
-Judged-as n r = refusal (outcome-of r) ≡ n
+Judged-as n r = refusal (answer-outcome r) ≡ n
 
 -- THE RECORDS OF A COMPONENT stand from a record on
 pub record Component-at (certificate : List ℕ) (at : ℕ) (c : Component) : Type 0 where
@@ -49,7 +49,7 @@ record-count c = 1 + length (c .pairs) + weight-count (c .weightings)
 -- what `judge_component` answers: the record after the component, or its refusal
 unfoldable pub Component-judged : System → Component → (at : ℕ) → Answer → Type 0
 Component-judged p c at r =
-    outcome-of r ≡ cond (eqb (component-refusal p (plain p) c) 0) (passed (at + record-count c)) (refused (component-refusal p (plain p) c))
+    answer-outcome r ≡ cond (eqb (component-refusal p (plain p) c) 0) (passed (at + record-count c)) (refused (component-refusal p (plain p) c))
 
 -- weights that can be written: rising, each at a place of the table
 pub record Fillable (ws : List Weight) : Type 0 where

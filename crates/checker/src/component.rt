@@ -11,7 +11,7 @@ ghost use Rattle.rewriting.specs.Terms.{System};
 ghost use Rattle.rewriting.specs.Pairs.{Pair};
 ghost use Rattle.pack_reader.specs.Stored.{Stored};
 ghost use Rattle.records.specs.Outcomes.{refusal};
-ghost use Rattle.records.specs.Answers.{outcome-of};
+ghost use Rattle.records.specs.Answers.{answer-outcome};
 ghost use Rattle.records.specs.Order.{W-weight, M-marked};
 ghost use Rattle.polynomials.specs.Polynomials.{Weight};
 ghost use Rattle.polynomials.specs.Judging.{any, rule-over};
@@ -24,7 +24,7 @@ ghost use Rattle.checker.specs.Working.{Component-at, Component-fits, Co
 
 // The first in the paper's order: 11 for either, 12 for the rules, 13 for the pairs.
 fn choose(rules: Verdict, calls: Verdict, next: usize) -> Answer
-    ensures { λ r. ⌜ outcome-of r ≡ chosen rules calls next ⌝ }
+    ensures { λ r. ⌜ answer-outcome r ≡ chosen rules calls next ⌝ }
 {
     match rules {
         Verdict::Over => Answer::Refused(Refusal::Heavy),
@@ -70,7 +70,7 @@ fn judge_calls(
     rules: usize,
 ) -> Answer
     requires { ⌜ (length (now certificate) % 8 ≡ 0) × (length (now certificate) ≤ 24576) × Kept-pack rules (now arities) (now starts) (now nodes) (now marks) × Marked-is (now table) [] × ((p : System) × (symbols : ℕ) × (qs : List Pair) × (ms : List Weight) × Stored p symbols rules (now arities) (now starts) (now nodes) (now marks) × All-pairs p qs × Pairs-at (now certificate) from qs × (length qs ≡ count) × Weights-at (now certificate) middle M-marked ms) ⌝ }
-    ensures { λ r. ⌜ Marked-is (now (table .exit)) [] × ((ws : List Weight) → Table-is (now (table .entry)) ws → Table-is (now (table .exit)) ws) × ((p : System) (symbols : ℕ) (qs : List Pair) (ws ms : List Weight) → Stored p symbols rules (now (arities .entry)) (now (starts .entry)) (now (nodes .entry)) (now (marks .entry)) → All-pairs p qs → Pairs-at (now (certificate .entry)) from qs → length qs ≡ count → Weights-at (now (certificate .entry)) middle M-marked ms → Table-is (now (table .entry)) ws → any (rule-over (record { weights = ws; marked = ms })) (p .rules) ≡ false → outcome-of r ≡ chosen verdict (calls-verdict p qs ws ms) (middle + length ms)) ⌝ }
+    ensures { λ r. ⌜ Marked-is (now (table .exit)) [] × ((ws : List Weight) → Table-is (now (table .entry)) ws → Table-is (now (table .exit)) ws) × ((p : System) (symbols : ℕ) (qs : List Pair) (ws ms : List Weight) → Stored p symbols rules (now (arities .entry)) (now (starts .entry)) (now (nodes .entry)) (now (marks .entry)) → All-pairs p qs → Pairs-at (now (certificate .entry)) from qs → length qs ≡ count → Weights-at (now (certificate .entry)) middle M-marked ms → Table-is (now (table .entry)) ws → any (rule-over (record { weights = ws; marked = ms })) (p .rules) ≡ false → answer-outcome r ≡ chosen verdict (calls-verdict p qs ws ms) (middle + length ms)) ⌝ }
 {
     let next = crate::weighing::fill(certificate, middle, b'M', table);
     let c = crate::weighing::judge_pairs(
@@ -103,7 +103,7 @@ fn judge_marked(
     rules: usize,
 ) -> Answer
     requires { ⌜ (length (now certificate) % 8 ≡ 0) × (length (now certificate) ≤ 24576) × Kept-pack rules (now arities) (now starts) (now nodes) (now marks) × Marked-is (now table) [] × ((p : System) × (symbols : ℕ) × (qs : List Pair) × (ms : List Weight) × Stored p symbols rules (now arities) (now starts) (now nodes) (now marks) × All-pairs p qs × Pairs-at (now certificate) from qs × (length qs ≡ count) × Weights-at (now certificate) middle M-marked ms) ⌝ }
-    ensures { λ r. ⌜ Marked-is (now (table .exit)) [] × ((ws : List Weight) → Table-is (now (table .entry)) ws → Table-is (now (table .exit)) ws) × ((p : System) (symbols : ℕ) (qs : List Pair) (ws ms : List Weight) → Stored p symbols rules (now (arities .entry)) (now (starts .entry)) (now (nodes .entry)) (now (marks .entry)) → All-pairs p qs → Pairs-at (now (certificate .entry)) from qs → length qs ≡ count → Weights-at (now (certificate .entry)) middle M-marked ms → Table-is (now (table .entry)) ws → ((verdict ≡ Verdict.Over → ⊥) → any (rule-over (record { weights = ws; marked = ms })) (p .rules) ≡ false) → outcome-of r ≡ chosen verdict (calls-verdict p qs ws ms) (middle + length ms)) ⌝ }
+    ensures { λ r. ⌜ Marked-is (now (table .exit)) [] × ((ws : List Weight) → Table-is (now (table .entry)) ws → Table-is (now (table .exit)) ws) × ((p : System) (symbols : ℕ) (qs : List Pair) (ws ms : List Weight) → Stored p symbols rules (now (arities .entry)) (now (starts .entry)) (now (nodes .entry)) (now (marks .entry)) → All-pairs p qs → Pairs-at (now (certificate .entry)) from qs → length qs ≡ count → Weights-at (now (certificate .entry)) middle M-marked ms → Table-is (now (table .entry)) ws → ((verdict ≡ Verdict.Over → ⊥) → any (rule-over (record { weights = ws; marked = ms })) (p .rules) ≡ false) → answer-outcome r ≡ chosen verdict (calls-verdict p qs ws ms) (middle + length ms)) ⌝ }
 {
     match verdict {
         Verdict::Over => Answer::Refused(Refusal::Heavy),
@@ -265,7 +265,7 @@ pub fn judge_components(
     marks: &[u8],
 ) -> Answer
     requires { ⌜ (length (now certificate) % 8 ≡ 0) × (length (now certificate) ≤ 24576) × Kept-pack rules (now arities) (now starts) (now nodes) (now marks) × ((p : System) × Components-from p (now certificate) components rules (now arities) (now starts) (now nodes) (now marks)) ⌝ }
-    ensures { λ r. ⌜ ((p : System) (a : Components-from p (now (certificate .entry)) components rules (now (arities .entry)) (now (starts .entry)) (now (nodes .entry)) (now (marks .entry))) → refusal (outcome-of r) ≡ components-refusal p (plain p) (a .all)) ⌝ }
+    ensures { λ r. ⌜ ((p : System) (a : Components-from p (now (certificate .entry)) components rules (now (arities .entry)) (now (starts .entry)) (now (nodes .entry)) (now (marks .entry))) → refusal (answer-outcome r) ≡ components-refusal p (plain p) (a .all)) ⌝ }
 {
     let mut table = [0u16; 1152];
     let mut before = 0;

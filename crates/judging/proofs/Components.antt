@@ -3,11 +3,11 @@
 use mathlib.Core.Path.{_≡_, refl, sym, _∙_}
 use mathlib.Core.Bool.{true, cond, or-false}
 use mathlib.Core.Logic.{_↔_, _⊎_, inl, inr, ⊎-elim}
-use mathlib.Core.List.{List, [], _∷_}
+use mathlib.Core.List.{List, [], _∷_, map}
 use Prim.Native.Nat.{ℕ, zero, suc, _≤_, _<_}
 use native.Mathlib.Omega.{arith}
 use lib.Dec.{eqb}
-use lib.ListN.{length, getD}
+use lib.ListN.{length, getD, length-map}
 use borrow.Author.Tests.{eqb-true, eqb-false, ne-eqb}
 use Rattle.rewriting.specs.Terms.{System}
 use Rattle.rewriting.specs.Pairs.{Pair, is-pair}
@@ -18,13 +18,15 @@ use Rattle.pairs.specs.Listing.{a-pair}
 use Rattle.pairs.specs.Arcs.{arc}
 use Rattle.pairs.proofs.Listed.{either}
 use Rattle.polynomials.specs.Polynomials.{Weighting}
-use Rattle.polynomials.specs.Judging.{any, All-within, Rules-kept, Calls-fall}
+use Rattle.polynomials.specs.Values.{Valuation, marked-value}
+use Rattle.polynomials.specs.Limit.{Side-within}
+use Rattle.polynomials.specs.Judging.{Call, no-call, any, Rules-within, Rules-kept}
 use Rattle.polynomials.proofs.Small.{Small, good-small}
-use Rattle.polynomials.proofs.Judged.{Judging-number, judging-numbers, Exactly, one-weighting}
+use Rattle.polynomials.proofs.Judged.{Judging-number, judging-numbers, Exactly, Calls-within, Calls-fall, one-weighting}
 use Rattle.certificates.specs.Components.{Component, no-component}
 use Rattle.certificates.specs.Encoding.{Good-certificate}
 use Rattle.judging.specs.Judge.{Judge, plain, arcs-among, call, calls, weighed-refusal, component-refusal, components-refusal}
-use Rattle.judging.specs.Shown.{nth-pair, nth, No-self-arc, Under, Component-shows, First-failure}
+use Rattle.judging.specs.Shown.{nth-pair, nth, No-self-arc, All-within, Pairs-fall, Under, Component-shows, First-failure}
 use Rattle.judging.specs.Shown.{Fails, self-arc, over-limit, rule-rises, pair-stays}
 
 -- what the judging asks of a component for its numbers to mean this; no more of what a good component is
@@ -48,6 +50,52 @@ only-arc p d [] h = absurd (omega arith)
 only-arc p d (q ∷ []) h = or-false _ ∙ or-false _
 only-arc p d (q ∷ r ∷ qs) h = absurd (omega arith)
 
+map-at : {A B : Type 0} (f : A → B) (xs : List A) (k : ℕ) (d : A) (e : B) → k < length xs → getD (map f xs) k e ≡ f (getD xs k d)
+map-at f [] k d e l = absurd (omega arith)
+map-at f (x ∷ xs) zero d e l = refl
+map-at f (x ∷ xs) (suc k) d e l = map-at f xs k d e (omega arith)
+
+-- the demands on calls are those on the pairs that they stand for
+module _ (p : System) (w : Weighting) (qs : List Pair) where
+  calls-long : length (calls p qs) ≡ length qs
+  unfolding calls
+  calls-long = length-map qs (call p)
+
+  -- a demand on the call at a place, and on the pair there
+  at-call : (P : Call → Type 0) (k : ℕ) → k < length qs → P (getD (calls p qs) k no-call) ↔ P (call p (getD qs k (a-pair 0 0)))
+  unfolding calls
+  at-call P k l = let e = map-at (call p) qs k (a-pair 0 0) no-call l in (λ h. rw e at h, λ h. rw e h)
+
+  calls-within : (Rules-within (p .rules) w × Calls-within w (calls p qs)) ↔ All-within p (p .rules) w qs
+  unfolding All-within call
+  calls-within = (
+    λ h. (
+      h .0,
+      record {
+        lefts = λ k l. at-call (λ c. Side-within w (c .left)) k l .0 (h .1 k (rw calls-long l) .0);
+        rights = λ k l. at-call (λ c. Side-within w (c .right)) k l .0 (h .1 k (rw calls-long l) .1);
+      },
+    ),
+    λ h. (
+      h .0,
+      λ k l.
+          let l = rw calls-long at l in (
+            at-call (λ c. Side-within w (c .left)) k l .1 (h .1 .lefts k l),
+            at-call (λ c. Side-within w (c .right)) k l .1 (h .1 .rights k l),
+          ),
+    ),
+  )
+
+  abbrev Falls : Call → Type 0
+  Falls c = (a : Valuation) → marked-value w a (c .right) < marked-value w a (c .left)
+
+  calls-fall : Calls-fall w (calls p qs) ↔ Pairs-fall p w qs
+  unfolding Pairs-fall call
+  calls-fall = (
+    λ h k l. at-call Falls k l .0 (h k (rw calls-long l)),
+    λ h k l. let l = rw calls-long at l in at-call Falls k l .1 (h k l),
+  )
+
 module _ (p : System) (good : Good p) (c : Component) (fit : Fit p c) where
   small : Small (p .rules) (calls p (c .pairs))
   unfolding call calls nth-pair
@@ -55,10 +103,9 @@ module _ (p : System) (good : Good p) (c : Component) (fit : Fit p c) where
 
   -- with one weighting its number is that of the weights, without any the one arc decides
   weighting-exactly : (w : Weighting) →
-      Exactly (weighed-refusal p (plain p) c (w ∷ []))
-      (All-within (p .rules) w (calls p (c .pairs))) (Rules-kept (p .rules) w) (Calls-fall w (calls p (c .pairs)))
+      Exactly (weighed-refusal p (plain p) c (w ∷ [])) (All-within p (p .rules) w (c .pairs)) (Rules-kept (p .rules) w) (Pairs-fall p w (c .pairs))
   unfolding weighed-refusal plain
-  weighting-exactly w = one-weighting (p .rules) w (calls p (c .pairs)) small
+  weighting-exactly w = one-weighting (p .rules) w (calls p (c .pairs)) small (calls-within p w (c .pairs)) (calls-fall p w (c .pairs))
 
   self-arc-number : length (c .pairs) ≡ 1 → weighed-refusal p (plain p) c [] ≡ cond (arc p (nth-pair c 0) (nth-pair c 0)) 10 0
   unfolding weighed-refusal nth-pair

@@ -24,6 +24,7 @@ use Rattle.polynomials.proofs.Weighed.{component-terminates}
 use Rattle.certificates.specs.Components.{Component}
 use Rattle.judging.specs.Judge.{Judge, all-pairs, each-once, arcs-among, back-arc, call, calls, weighed-refusal, component-refusal, judged}
 use Rattle.judging.specs.Shown.{Each-once}
+use Rattle.judging.proofs.Once.{once-means}
 use Rattle.judging.proofs.Tests.{each-once-means, no-arc}
 use Rattle.judging.proofs.Components.{none-refused}
 
@@ -108,7 +109,7 @@ module _ (p : System) (m : Strategy) (j : Judge) (good : Good p) (sound : Sound 
 
   stands : (cs : List Component) → Each-once p cs → (q : Pair) → is-pair p q ≡ true → List·Memᴰ q (all-pairs cs)
   unfolding Each-once
-  stands cs once q is = counted-member q (all-pairs cs) (omega (arith, once q is))
+  stands cs once q is = counted-member q (all-pairs cs) (omega (arith, once-means cs q .1 (once q is)))
 
   -- what the judge accepts terminates, its chains and its terms
   pub judged-terminates : (cs : List Component) → judged p j cs ≡ 0 → Chains-terminating p m × Terminating p m

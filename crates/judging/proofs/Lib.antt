@@ -1,5 +1,7 @@
 -- What the judging of 8 to 13 means, and that what it accepts terminates; in the order in which to read it.
 
+-- a pair that is counted once stands at one place
+pub mod Once
 -- the tests of 8 and 9
 pub mod Tests
 -- 10 to 13: one component, and the first component that fails

@@ -19,6 +19,7 @@ use Rattle.polynomials.proofs.Lists.{any-false-mem, none-pass}
 use Rattle.certificates.specs.Components.{Component}
 use Rattle.judging.specs.Judge.{Judge, plain, all-pairs, each-once, arcs-among, back-arc}
 use Rattle.judging.specs.Shown.{nth-pair, nth, Each-once, No-back-arc}
+use Rattle.judging.proofs.Once.{once-means}
 
 -- 8: EACH ONCE
 
@@ -37,8 +38,8 @@ counted-once stated (each-cons q qs h hs) = and-both {a = eqb (count-pair q stat
 pub each-once-means : (p : System) (cs : List Component) → (each-once (pairs p) (all-pairs cs) ≡ true) ↔ Each-once p cs
 unfolding Each-once
 each-once-means p cs = (
-  λ h q is. once-counted (all-pairs cs) (counted-member q (pairs p) (omega (arith, pairs-listed p q .0 is))) h,
-  λ once. counted-once (all-pairs cs) (each-map once (listed-pairs p)),
+  λ h q is. once-means cs q .0 (once-counted (all-pairs cs) (counted-member q (pairs p) (omega (arith, pairs-listed p q .0 is))) h),
+  λ once. counted-once (all-pairs cs) (each-map (λ q is. once-means cs q .1 (once q is)) (listed-pairs p)),
 )
 
 -- 9: NO BACK ARC

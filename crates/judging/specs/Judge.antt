@@ -1,9 +1,8 @@
 -- 8, 9, and each component in turn: 10, or 11, 12, 13. Over a judge, which says what an arc is and which rules a component
--- is judged by.
-use mathlib.Core.Path.{_≡_}
+-- is judged by; document 01 has one, `plain`.
 use mathlib.Core.Bool.{Bool, true, false, _&&_, _||_, cond}
 use mathlib.Core.List.{List, [], _∷_, _++_, map}
-use Prim.Native.Nat.{ℕ, zero, suc}
+use Prim.Native.Nat.{ℕ}
 use lib.Dec.{eqb}
 use Rattle.rewriting.specs.Terms.{System, Rule}
 use Rattle.rewriting.specs.Pairs.{Pair, pair-left, pair-right}
@@ -57,5 +56,9 @@ unfoldable pub components-refusal : System → Judge → List Component → ℕ
 components-refusal p j [] = 0
 components-refusal p j (c ∷ cs) = cond (eqb (component-refusal p j c) 0) (components-refusal p j cs) (component-refusal p j c)
 
+-- n unless the test holds, else what comes after it
+abbrev first-unless : Bool → (n after : ℕ) → ℕ
+first-unless b n m = cond b m n
+
 unfoldable pub judged : System → Judge → List Component → ℕ
-judged p j cs = cond (each-once (pairs p) (all-pairs cs)) (cond (back-arc j [] cs) 9 (components-refusal p j cs)) 8
+judged p j cs = first-unless (each-once (pairs p) (all-pairs cs)) 8 (cond (back-arc j [] cs) 9 (components-refusal p j cs))

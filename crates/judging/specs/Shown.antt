@@ -1,17 +1,18 @@
--- What a certificate must show, in document 01's words: no test, no reader, no polynomial's order.
+-- What a certificate must show, and how it fails, in document 01's words: no reader, no order of polynomials.
 use mathlib.Core.Path.{_≡_}
-use mathlib.Core.Bool.{Bool, true, false}
+use mathlib.Core.Bool.{true, false}
 use mathlib.Core.List.{List, [], _∷_}
 use Prim.Native.Nat.{ℕ, _<_}
 use lib.ListN.{length, getD}
-use Rattle.rewriting.specs.Terms.{System}
-use Rattle.rewriting.specs.Pairs.{Pair, is-pair}
-use Rattle.pairs.specs.Listing.{a-pair, count-pair}
+use Rattle.rewriting.specs.Terms.{System, Rule}
+use Rattle.rewriting.specs.Pairs.{Pair, is-pair, pair-left, pair-right}
+use Rattle.pairs.specs.Listing.{a-pair}
 use Rattle.pairs.specs.Arcs.{arc}
 use Rattle.polynomials.specs.Polynomials.{Weighting}
-use Rattle.polynomials.specs.Judging.{All-within, Rules-kept, Calls-fall}
+use Rattle.polynomials.specs.Values.{Valuation, marked-value}
+use Rattle.polynomials.specs.Limit.{Side-within}
+use Rattle.polynomials.specs.Judging.{Rules-within, Rules-kept}
 use Rattle.certificates.specs.Components.{Component, no-component}
-use Rattle.judging.specs.Judge.{all-pairs, calls}
 
 unfoldable pub nth-pair : Component → ℕ → Pair
 nth-pair c k = getD (c .pairs) k (a-pair 0 0)
@@ -19,9 +20,22 @@ nth-pair c k = getD (c .pairs) k (a-pair 0 0)
 unfoldable pub nth : List Component → ℕ → Component
 nth cs i = getD cs i no-component
 
+-- the pair is number k of component i
+pub record Stands-at (cs : List Component) (q : Pair) (i k : ℕ) : Type 0 where
+  pub component-in : i < length cs
+  pub number-in : k < length (nth cs i .pairs)
+  pub is : nth-pair (nth cs i) k ≡ q
+
+-- it stands at one place, and at no other
+pub record Once (cs : List Component) (q : Pair) : Type 0 where
+  pub component : ℕ
+  pub number : ℕ
+  pub stands : Stands-at cs q component number
+  pub no-other : (i k : ℕ) → Stands-at cs q i k → (i ≡ component) × (k ≡ number)
+
 -- every pair of the pack stands exactly once
 unfoldable pub Each-once : System → List Component → Type 0
-Each-once p cs = (q : Pair) → is-pair p q ≡ true → count-pair q (all-pairs cs) ≡ 1
+Each-once p cs = (q : Pair) → is-pair p q ≡ true → Once cs q
 
 -- no arc leads from component i to a component j with a lower number
 unfoldable pub No-back-arc : System → List Component → Type 0
@@ -33,12 +47,26 @@ No-back-arc p cs =
 unfoldable pub No-self-arc : System → Component → Type 0
 No-self-arc p c = arc p (nth-pair c 0) (nth-pair c 0) ≡ false
 
--- in one with a weighting every rule's left is at least its right, every pair's left is greater than its right, and every
--- node is within the limit
+-- 11 is not given: every node of the rules and of the pairs' sides is within the limit
+pub record Pairs-within (p : System) (w : Weighting) (qs : List Pair) : Type 0 where
+  pub lefts : (k : ℕ) → k < length qs → Side-within w (pair-left p (getD qs k (a-pair 0 0)))
+  pub rights : (k : ℕ) → k < length qs → Side-within w (pair-right p (getD qs k (a-pair 0 0)))
+
+unfoldable pub All-within : System → List Rule → Weighting → List Pair → Type 0
+All-within p rs w qs = Rules-within rs w × Pairs-within p w qs
+
+-- 13 is not given: every pair's left is greater than its right
+unfoldable pub Pairs-fall : System → Weighting → List Pair → Type 0
+Pairs-fall p w qs =
+    (k : ℕ) → k < length qs → (a : Valuation) →
+    marked-value w a (pair-right p (getD qs k (a-pair 0 0))) < marked-value w a (pair-left p (getD qs k (a-pair 0 0)))
+
+-- in one with a weighting every node is within the limit, every rule's left is at least its right, every pair's left is
+-- greater than its right
 pub record Weighs (p : System) (w : Weighting) (c : Component) : Type 0 where
-  pub within : All-within (p .rules) w (calls p (c .pairs))
+  pub within : All-within p (p .rules) w (c .pairs)
   pub rules-kept : Rules-kept (p .rules) w
-  pub pairs-fall : Calls-fall w (calls p (c .pairs))
+  pub pairs-fall : Pairs-fall p w (c .pairs)
 
 unfoldable pub Under : System → Component → List Weighting → Type 0
 Under p c [] = No-self-arc p c
@@ -55,11 +83,11 @@ pub record Shows (p : System) (cs : List Component) : Type 0 where
 -- a component's first failure, by its number in document 01's table
 pub data Fails (p : System) (c : Component) : (number : ℕ) → List Weighting → Type 0 where
   self-arc : (No-self-arc p c → ⊥) → Fails p c 10 []
-  over-limit : (w : Weighting) → (All-within (p .rules) w (calls p (c .pairs)) → ⊥) → Fails p c 11 (w ∷ [])
+  over-limit : (w : Weighting) → (All-within p (p .rules) w (c .pairs) → ⊥) → Fails p c 11 (w ∷ [])
   rule-rises :
-      (w : Weighting) → All-within (p .rules) w (calls p (c .pairs)) → (Rules-kept (p .rules) w → ⊥) → Fails p c 12 (w ∷ [])
+      (w : Weighting) → All-within p (p .rules) w (c .pairs) → (Rules-kept (p .rules) w → ⊥) → Fails p c 12 (w ∷ [])
   pair-stays :
-      (w : Weighting) → All-within (p .rules) w (calls p (c .pairs)) → Rules-kept (p .rules) w → (Calls-fall w (calls p (c .pairs)) → ⊥) →
+      (w : Weighting) → All-within p (p .rules) w (c .pairs) → Rules-kept (p .rules) w → (Pairs-fall p w (c .pairs) → ⊥) →
       Fails p c 13 (w ∷ [])
 
 -- component i is the first that does not show what it must, and fails at this number

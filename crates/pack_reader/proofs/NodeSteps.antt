@@ -14,7 +14,7 @@ use Rattle.records.proofs.Outcomes.{not-passed, passed-same, test-held}
 use Rattle.records.proofs.Table.{Kind, is-S, is-R, is-F, is-V, is-C, is-P, is-W, is-M, is-other, kind-of}
 use Rattle.terms.specs.Sides.{Node, variable, symbol}
 use Rattle.terms.specs.Kept.{code, codes}
-use Rattle.packs.specs.Reading.{variable-count, node-zeros, node-of}
+use Rattle.packs.specs.PackReading.{variable-count, node-zeros, node-of}
 use Rattle.packs.proofs.OneRecord.{node-row}
 use Rattle.packs.proofs.Places.{Inside, inside-kind, inside-row, inside-next}
 use Rattle.pack_reader.specs.Stored.{node-outcome, coded, Run, more-run, node-steps}

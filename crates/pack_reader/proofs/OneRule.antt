@@ -9,13 +9,13 @@ use Rattle.rewriting.specs.Terms.{Rule, System}
 use Rattle.rewriting.proofs.Basics.{Each, each-map, each-left, each-right}
 use Rattle.records.specs.declared.Record.{Record}
 use Rattle.records.specs.declared.Answer.{Answer}
-use Rattle.records.specs.Answers.{outcome-of}
+use Rattle.records.specs.Answers.{answer-outcome}
 use Rattle.records.specs.Outcomes.{Outcome, refused, passed, after}
 use Rattle.records.proofs.Outcomes.{not-passed, passed-same}
 use Rattle.terms.specs.Sides.{Node, variable, symbol, flat, side}
 use Rattle.terms.specs.Kept.{Kept, codes}
 use Rattle.terms.proofs.Parsing.{Node-fits, side-nodes}
-use Rattle.packs.specs.Reading.{variable-count, rule-of}
+use Rattle.packs.specs.PackReading.{variable-count, rule-of}
 use Rattle.pack_reader.specs.Stored.{Run, node-steps, rule-judged, Rule-read}
 use Rattle.packs.proofs.OneRecord.{node-row, rule-of-passed}
 use Rattle.packs.proofs.Places.{at-rule}
@@ -61,12 +61,12 @@ module _ (ar arities : List ℕ) (are : take (length ar) arities ≡ ar) (few : 
       pub untouched : take base now ≡ take base before
 
     -- a refusal, whatever was to come
-    pub refused-told : (x : Answer) (m : ℕ) → outcome-of x ≡ refused m → Rule-read (node-steps (length ar) 2 (b + c) rs) b arities x base before now
+    pub refused-told : (x : Answer) (m : ℕ) → answer-outcome x ≡ refused m → Rule-read (node-steps (length ar) 2 (b + c) rs) b arities x base before now
         → (k : Run → Rule → Outcome System) → after (node-steps (length ar) 2 (b + c) rs) (λ y. after (made ar b (y .nodes)) (λ u. k y u)) ≡ refused m
     unfolding Rule-read
     refused-told x m e h k = go (node-steps (length ar) 2 (b + c) rs) refl h
       where
-        by-made : (o : Outcome Rule) (y : Run) → outcome-of x ≡ after {A = ℕ} (after o (λ u. passed 0)) (λ k. passed (y .last)) → after o (λ u. k y u) ≡ refused m
+        by-made : (o : Outcome Rule) (y : Run) → answer-outcome x ≡ after {A = ℕ} (after o (λ u. passed 0)) (λ k. passed (y .last)) → after o (λ u. k y u) ≡ refused m
         by-made (refused n) y told = as-refused System (sym told ∙ e)
         by-made (passed u) y told = not-passed (sym e ∙ told)
 
@@ -75,11 +75,11 @@ module _ (ar arities : List ℕ) (are : take (length ar) arities ≡ ar) (few : 
         go (passed y) s h =
             by-made (made ar b (y .nodes)) y (h .0 ∙ rw (judged-made b (y .nodes) (nodes-told (length ar) 2 (b + c) rs y s .small)))
 
-    pub passed-told : (x : Answer) (row : ℕ) → 1 ≤ b + c → outcome-of x ≡ passed row → Rule-read (node-steps (length ar) 2 (b + c) rs) b arities x base before now → Rule-told row
+    pub passed-told : (x : Answer) (row : ℕ) → 1 ≤ b + c → answer-outcome x ≡ passed row → Rule-read (node-steps (length ar) 2 (b + c) rs) b arities x base before now → Rule-told row
     unfolding Rule-read
     passed-told x row some e h = go (node-steps (length ar) 2 (b + c) rs) refl h
       where
-        by-made : (o : Outcome Rule) (y : Run) → outcome-of x ≡ after {A = ℕ} (after o (λ u. passed 0)) (λ k. passed (y .last)) → (u : Rule) × (o ≡ passed u) × (row ≡ y .last)
+        by-made : (o : Outcome Rule) (y : Run) → answer-outcome x ≡ after {A = ℕ} (after o (λ u. passed 0)) (λ k. passed (y .last)) → (u : Rule) × (o ≡ passed u) × (row ≡ y .last)
         by-made (refused n) y told = not-passed (sym told ∙ e)
         by-made (passed u) y told = (u, refl, passed-same (sym e ∙ told))
 

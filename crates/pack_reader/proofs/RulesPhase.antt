@@ -16,7 +16,7 @@ use Rattle.records.specs.Order.{S-symbol, R-rule, V-variable, index, may-follow
 use Rattle.records.proofs.Outcomes.{passed-same, not-passed, test-held, after-passed, after-same, after-after}
 use Rattle.records.proofs.Table.{kind-of}
 use Rattle.terms.specs.Sides.{Node, side}
-use Rattle.packs.specs.Reading.{Reading, between-rules, most-rules, most-nodes, variable-count, side-count, rule-read, node-zeros, node-in-range, node-of, rule-of, rule-ended, node-read, pack-step, pack-end, pack-from}
+use Rattle.packs.specs.PackReading.{Pack-reading, between-rules, most-rules, most-nodes, variable-count, side-count, rule-read, node-zeros, node-in-range, node-of, rule-of, rule-ended, node-read, pack-step, pack-end, pack-from}
 use Rattle.pack_reader.specs.Stored.{node-outcome, Run, more-run, node-steps, rule-header}
 use Rattle.packs.proofs.OneRecord.{node-row, stray-record}
 use Rattle.packs.proofs.Places.{Inside, at-rule, inside-kind, inside-next, inside-no-end}
@@ -25,7 +25,7 @@ use Rattle.pack_reader.proofs.NodeSteps.{Small, outcome-small}
 -- THE NODES OF A RULE, after the symbols and rules before it
 
 module _ (ar : List ℕ) (us : List Rule) (lefts : ℕ) where
-  abbrev pub inside : (last due : ℕ) → List Node → Reading
+  abbrev pub inside : (last due : ℕ) → List Node → Pack-reading
   inside last due ns = record { last = last; arities = ar; rules = us; lefts = lefts; due = due; nodes = ns }
 
   -- the rule that the nodes make, then the records after it
@@ -33,7 +33,7 @@ module _ (ar : List ℕ) (us : List Rule) (lefts : ℕ) where
   rule-made last ns rs =
       after (rule-of (side ar (take lefts ns)) (side ar (drop lefts ns))) (λ u. pack-from rs (between-rules last ar (us ++ (u ∷ []))))
 
-  abbrev one-more : Record → (due : ℕ) → List Node → Node → Outcome Reading
+  abbrev one-more : Record → (due : ℕ) → List Node → Node → Outcome Pack-reading
   one-more r due ns n =
       cond (eqb due 1) (rule-ended (index (r .kind)) (inside 0 due ns) (ns ++ (n ∷ []))) (passed (inside (index (r .kind)) (due - 1) (ns ++ (n ∷ []))))
 

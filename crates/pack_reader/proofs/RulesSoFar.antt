@@ -13,7 +13,7 @@ use Rattle.rewriting.specs.Terms.{Rule, System, rule, no-rule}
 use Rattle.records.specs.declared.Record.{Record}
 use Rattle.records.specs.declared.Answer.{Answer}
 use Rattle.records.specs.declared.Wanted.the-variants.{Found, Stray}
-use Rattle.records.specs.Answers.{outcome-of}
+use Rattle.records.specs.Answers.{answer-outcome}
 use Rattle.records.specs.Outcomes.{Outcome, refused, passed, after}
 use Rattle.records.specs.Records.{record-at, all-records}
 use Rattle.records.specs.Order.{S-symbol, R-rule, index, may-follow, pack-edge}
@@ -22,7 +22,7 @@ use Rattle.records.proofs.Bytes.{drop-records, length-of-records}
 use Rattle.records.proofs.Table.{kind-of}
 use Rattle.terms.specs.Sides.{flat}
 use Rattle.terms.specs.Kept.{Kept}
-use Rattle.packs.specs.Reading.{between-rules, pack-end, pack-from}
+use Rattle.packs.specs.PackReading.{between-rules, pack-end, pack-from}
 use Rattle.pack_reader.specs.Stored.{Rule-at, node-steps, Rule-read, rule-header, row-after}
 use Rattle.packs.proofs.OneRecord.{stray-record}
 use Rattle.packs.proofs.Places.{Between, at-start, after-symbol, after-node, between-symbol, between-kind}
@@ -183,13 +183,13 @@ module _ (pack arities : List ℕ) (symbols : ℕ) (fits : symbols ≤ length ar
             read-rule : Rule-read (node-steps (length (take symbols arities)) 2 (r .b + r .c) (drop (at + 1) (all-records pack))) (r .b) arities x base nodes now
             read-rule = rw symbols-long read
 
-            pub rule-refuses : (n : ℕ) → outcome-of x ≡ refused n → from-rules pack arities symbols ≡ refused n
+            pub rule-refuses : (n : ℕ) → answer-outcome x ≡ refused n → from-rules pack arities symbols ≡ refused n
             rule-refuses n e =
                 then-nodes
                 ∙ (rw symbols-long at (refused-told (take symbols arities) arities known (rw symbols-long few) (r .b) (r .c) base (drop (at + 1) (all-records pack)) nodes now x n e read-rule
                 (λ y u. pack-from (drop (r .b + r .c) (drop (at + 1) (all-records pack))) (between-rules (y .last) (take symbols arities) (s .rules ++ (u ∷ []))))))
 
-            module _ (row : ℕ) (e : outcome-of x ≡ passed row) (room : 2 * i + 2 < length starts) where
+            module _ (row : ℕ) (e : answer-outcome x ≡ passed row) (room : 2 * i + 2 < length starts) where
               told : Rule-told (take symbols arities) arities known (rw symbols-long few) (r .b) (r .c) base (drop (at + 1) (all-records pack)) nodes now row
               told =
                   let t = header-told i r m head in

@@ -19,7 +19,7 @@ use Rattle.records.specs.Outcomes.{Outcome, refused, passed, after}
 use Rattle.terms.specs.Sides.{Node, variable, symbol, flat, side}
 use Rattle.terms.specs.Kept.{code, codes, code-arity, balanced}
 use Rattle.terms.proofs.Parsing.{Node-fits, well-app, app-well, well-cons, cons-well, side-flat, side-nodes, side-term}
-use Rattle.packs.specs.Reading.{variable-count, rule-of}
+use Rattle.packs.specs.PackReading.{variable-count, rule-of}
 use Rattle.pack_reader.specs.Stored.{variables-in, rule-judged}
 use Rattle.pack_reader.proofs.NodeSteps.{codes-append}
 

@@ -11,7 +11,7 @@ use Rattle.records.specs.declared.Record.{Record}
 use Rattle.records.specs.Outcomes.{Outcome, refused, passed, after}
 use Rattle.records.specs.Order.{S-symbol, index, may-follow}
 use Rattle.records.proofs.Outcomes.{passed-same, test-held}
-use Rattle.packs.specs.Reading.{most-symbols, most-arity}
+use Rattle.packs.specs.PackReading.{most-symbols, most-arity}
 use Rattle.pack_reader.specs.Stored.{arity-outcome, symbol-steps}
 
 -- ONE SYMBOL

@@ -15,7 +15,7 @@ use Rattle.records.specs.declared.Record.{Record}
 use Rattle.records.specs.Outcomes.{Outcome, refused, passed, after}
 use Rattle.records.specs.Order.{S-symbol, index, may-follow, pack-edge}
 use Rattle.records.proofs.Outcomes.{passed-same, test-held, after-passed, after-same, after-after}
-use Rattle.packs.specs.Reading.{between-rules, most-symbols, most-arity, symbol-read, pack-step, pack-from}
+use Rattle.packs.specs.PackReading.{between-rules, most-symbols, most-arity, symbol-read, pack-step, pack-from}
 use Rattle.pack_reader.specs.Stored.{arity-outcome, symbol-steps, row-after}
 use Rattle.packs.proofs.OneRecord.{stray-record}
 use Rattle.pack_reader.proofs.SymbolSteps.{arity-small, symbols-stray, symbols-end, symbols-read}

@@ -14,14 +14,14 @@ use Rattle.rewriting.proofs.Trees.{term-not-list}
 use Rattle.records.specs.declared.Answer.{Answer}
 use Rattle.records.specs.declared.Answer.the-variants.{Passed, Refused}
 use Rattle.records.specs.declared.Refusal.{Refusal}
-use Rattle.records.specs.Answers.{number-of, outcome-of}
+use Rattle.records.specs.Answers.{number-of, answer-outcome}
 use Rattle.records.specs.Outcomes.{Outcome, refused, passed, after}
 use Rattle.records.specs.Records.{record-at, all-records, length-bad}
 use Rattle.records.specs.Order.{S-symbol}
 use Rattle.records.proofs.Outcomes.{not-passed, passed-same}
 use Rattle.records.proofs.Bytes.{drop-records}
 use Rattle.terms.proofs.Parsing.{flat-positive}
-use Rattle.packs.specs.Reading.{between-rules, most-bytes, most-symbols, pack-from, read-pack}
+use Rattle.packs.specs.PackReading.{between-rules, most-pack-bytes, most-symbols, pack-from, read-pack}
 use Rattle.packs.specs.Encoding.{Good-pack}
 use Rattle.pack_reader.specs.Stored.{Rule-at, Stored, symbol-steps, row-after, Symbols-read, Rules-read, Marked}
 use Rattle.packs.proofs.OnlyEncodings.{pack-good}
@@ -32,18 +32,18 @@ use Rattle.pack_reader.proofs.Marks.{marks-defined}
 
 -- 1
 
-pub too-long : (pack : List ℕ) → most-bytes < length pack → read-pack pack ≡ refused 1
+pub too-long : (pack : List ℕ) → most-pack-bytes < length pack → read-pack pack ≡ refused 1
 unfolding read-pack length-bad
-too-long pack h = rw (lt-ltb most-bytes (length pack) h)
+too-long pack h = rw (lt-ltb most-pack-bytes (length pack) h)
 
 pub not-whole : (pack : List ℕ) → (length pack % 8 ≡ 0 → ⊥) → read-pack pack ≡ refused 1
 unfolding read-pack length-bad
 not-whole pack h = rw (ne-eqb (length pack % 8) 0 h, or-true)
 
-module _ (pack : List ℕ) (short : length pack ≤ most-bytes) (whole : length pack % 8 ≡ 0) where
+module _ (pack : List ℕ) (short : length pack ≤ most-pack-bytes) (whole : length pack % 8 ≡ 0) where
   in-phases : read-pack pack ≡ after (symbol-steps 0 0 (all-records pack)) (λ ar. pack-from (drop (length ar) (all-records pack)) (between-rules (row-after (length ar)) ar []))
   unfolding read-pack length-bad
-  in-phases = rw (le-ltb most-bytes (length pack) short, eq-eqb (length pack % 8) 0 whole) (symbols-phase (all-records pack))
+  in-phases = rw (le-ltb most-pack-bytes (length pack) short, eq-eqb (length pack % 8) 0 whole) (symbols-phase (all-records pack))
 
   -- THE SYMBOLS
 
@@ -54,8 +54,8 @@ module _ (pack : List ℕ) (short : length pack ≤ most-bytes) (whole : length 
     where
       go : (o : Outcome (List ℕ)) → Symbols-read o a arities
           → after o (λ ar. pack-from (drop (length ar) (all-records pack)) (between-rules (row-after (length ar)) ar [])) ≡ refused (number-of x)
-      go (refused n) h = as-refused System (sym h ∙ ap outcome-of e)
-      go (passed ar) h = not-passed (ap outcome-of (sym e) ∙ h .0)
+      go (refused n) h = as-refused System (sym h ∙ ap answer-outcome e)
+      go (passed ar) h = not-passed (ap answer-outcome (sym e) ∙ h .0)
 
   -- so many symbols were read: no other stands after them, and the rules are to be read
   pub record Symbols-done (arities : List ℕ) (s : ℕ) : Type 0 where
@@ -68,9 +68,9 @@ module _ (pack : List ℕ) (short : length pack ≤ most-bytes) (whole : length 
   symbols-done {a} s arities h e = go (symbol-steps 0 0 (all-records pack)) refl h
     where
       go : (o : Outcome (List ℕ)) → symbol-steps 0 0 (all-records pack) ≡ o → Symbols-read o a arities → Symbols-done arities s
-      go (refused n) q h = not-passed (sym h ∙ ap outcome-of e)
+      go (refused n) q h = not-passed (sym h ∙ ap answer-outcome e)
       go (passed ar) q h =
-          let many : s ≡ length ar = passed-same (ap outcome-of (sym e) ∙ h .0) in
+          let many : s ≡ length ar = passed-same (ap answer-outcome (sym e) ∙ h .0) in
           let are : take s arities ≡ ar = rw many (h .1) in
           let t = symbols-told (all-records pack) 0 0 ar (omega arith) q in
           record {
@@ -88,8 +88,8 @@ module _ (pack : List ℕ) (short : length pack ≤ most-bytes) (whole : length 
     rules-refused {a} x starts nodes h e = d .then ∙ go (from-rules pack arities s) h
       where
         go : (o : Outcome System) → Rules-read o (take s arities) a starts nodes → o ≡ refused (number-of x)
-        go (refused n) h = as-refused System (sym h ∙ ap outcome-of e)
-        go (passed p) h = not-passed (ap outcome-of (sym e) ∙ h .0)
+        go (refused n) h = as-refused System (sym h ∙ ap answer-outcome e)
+        go (passed p) h = not-passed (ap answer-outcome (sym e) ∙ h .0)
 
     -- so many rules were read
     pub record Rules-done (starts nodes : List ℕ) (n : ℕ) : Type 0 where
@@ -104,9 +104,9 @@ module _ (pack : List ℕ) (short : length pack ≤ most-bytes) (whole : length 
     rules-done {a} n starts nodes h e = go (from-rules pack arities s) refl h
       where
         go : (o : Outcome System) → from-rules pack arities s ≡ o → Rules-read o (take s arities) a starts nodes → Rules-done starts nodes n
-        go (refused m) q h = not-passed (sym h ∙ ap outcome-of e)
+        go (refused m) q h = not-passed (sym h ∙ ap answer-outcome e)
         go (passed p) q h =
-            record { system = p; read = d .then ∙ q; many = passed-same (ap outcome-of (sym e) ∙ h .0); arities-are = h .1; kept = h .2 }
+            record { system = p; read = d .then ∙ q; many = passed-same (ap answer-outcome (sym e) ∙ h .0); arities-are = h .1; kept = h .2 }
 
     module _ (starts nodes : List ℕ) (n : ℕ) (r : Rules-done starts nodes n) where
       good : Good-pack (r .system)

@@ -13,13 +13,13 @@ use Rattle.rewriting.specs.Systems.{member}
 use Rattle.records.specs.declared.Record.{Record}
 use Rattle.records.specs.declared.Answer.{Answer}
 use Rattle.records.specs.declared.Refusal.{Refusal}
-use Rattle.records.specs.Answers.{number-of, outcome-of}
+use Rattle.records.specs.Answers.{number-of, answer-outcome}
 use Rattle.records.specs.Outcomes.{Outcome, refused, passed, after}
 use Rattle.records.specs.Records.{all-records}
 use Rattle.records.specs.Order.{S-symbol, R-rule, V-variable, index, may-follow}
 use Rattle.terms.specs.Sides.{Node, variable, symbol, flat, side}
 use Rattle.terms.specs.Kept.{code, codes, Kept, balanced}
-use Rattle.packs.specs.Reading.{Reading, between-rules, read-pack, pack-from, node-zeros, node-in-range, node-of, rule-of, rule-ended, side-count, most-symbols, most-arity, most-rules, variable-count}
+use Rattle.packs.specs.PackReading.{Pack-reading, between-rules, read-pack, pack-from, node-zeros, node-in-range, node-of, rule-of, rule-ended, side-count, most-symbols, most-arity, most-rules, variable-count}
 use Rattle.packs.specs.Encoding.{Good-pack}
 use Rattle.pack_reader.specs.declared.Counts.{Counts}
 use Rattle.pack_reader.specs.declared.PackRead.{PackRead}
@@ -70,9 +70,9 @@ node-steps n k (suc c) (r ∷ rs) =
 
 -- what `read_nodes` answers and leaves: the nodes from `base` on, the bytes before them untouched
 unfoldable pub Nodes-read : Outcome Run → Answer → (base : ℕ) → (before now : List ℕ) → Type 0
-Nodes-read (refused n) x base o z = (outcome-of x ≡ refused n) × (length z ≡ length o) × (take base z ≡ take base o)
+Nodes-read (refused n) x base o z = (answer-outcome x ≡ refused n) × (length z ≡ length o) × (take base z ≡ take base o)
 Nodes-read (passed y) x base o z =
-    (outcome-of x ≡ passed (y .last)) × (length z ≡ length o) × (take base z ≡ take base o) × Kept z base (y .nodes)
+    (answer-outcome x ≡ passed (y .last)) × (length z ≡ length o) × (take base z ≡ take base o) × Kept z base (y .nodes)
 
 -- every variable among the nodes has a mark
 unfoldable pub all-seen : (marks : List Bool) → (nodes : List ℕ) → Bool
@@ -96,9 +96,9 @@ rule-judged ar ls rs =
 
 -- what `read_rule` answers and leaves: the nodes, then 4, 5, 6 in bytes
 unfoldable pub Rule-read : Outcome Run → (left : ℕ) → (arities : List ℕ) → Answer → (base : ℕ) → (before now : List ℕ) → Type 0
-Rule-read (refused n) l ar x base o z = (outcome-of x ≡ refused n) × (length z ≡ length o) × (take base z ≡ take base o)
+Rule-read (refused n) l ar x base o z = (answer-outcome x ≡ refused n) × (length z ≡ length o) × (take base z ≡ take base o)
 Rule-read (passed y) l ar x base o z =
-    (outcome-of x ≡ after (rule-judged ar (codes (take l (y .nodes))) (codes (drop l (y .nodes)))) (λ k. passed (y .last)))
+    (answer-outcome x ≡ after (rule-judged ar (codes (take l (y .nodes))) (codes (drop l (y .nodes)))) (λ k. passed (y .last)))
     × (length z ≡ length o) × (take base z ≡ take base o) × Kept z base (y .nodes)
 
 -- what `mark_defined` leaves: a mark of 1 for each byte below 64 that begins a left side
@@ -126,8 +126,8 @@ symbol-steps k i (r ∷ rs) =
     (refused 2)
 
 unfoldable pub Symbols-read : Outcome (List ℕ) → Answer → (arities : List ℕ) → Type 0
-Symbols-read (refused n) x z = outcome-of x ≡ refused n
-Symbols-read (passed ar) x z = (outcome-of x ≡ passed (length ar)) × (take (length ar) z ≡ ar)
+Symbols-read (refused n) x z = answer-outcome x ≡ refused n
+Symbols-read (passed ar) x z = (answer-outcome x ≡ passed (length ar)) × (take (length ar) z ≡ ar)
 
 -- RULES: the row of what stands before the first R, and all rules up to the end
 unfoldable pub row-after : (symbols : ℕ) → ℕ
@@ -141,9 +141,9 @@ rule-header i r =
     (refused 2)
 
 unfoldable pub Rules-read : Outcome System → (arities : List ℕ) → Answer → (starts nodes : List ℕ) → Type 0
-Rules-read (refused n) ar x ss ns = outcome-of x ≡ refused n
+Rules-read (refused n) ar x ss ns = answer-outcome x ≡ refused n
 Rules-read (passed p) ar x ss ns =
-    (outcome-of x ≡ passed (length (p .rules))) × (p .arities ≡ ar) × ((i : ℕ) → i < length (p .rules) → Rule-at ss ns i (rule p i))
+    (answer-outcome x ≡ passed (length (p .rules))) × (p .arities ≡ ar) × ((i : ℕ) → i < length (p .rules) → Rule-at ss ns i (rule p i))
 
 -- THE PACK
 unfoldable pub Pack-read : Outcome System → PackRead → (arities starts nodes marks : List ℕ) → Type 0

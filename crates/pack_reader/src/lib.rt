@@ -9,7 +9,7 @@ use records::Refusal;
 ghost use Prim.Native.Nat.{_≤_};
 ghost use mathlib.Core.Path.{_≡_};
 ghost use lib.ListN.{length};
-ghost use Rattle.packs.specs.Reading.{read-pack};
+ghost use Rattle.packs.specs.PackReading.{read-pack};
 ghost use Rattle.pack_reader.specs.Stored.{Pack-read};
 
 // How many symbols and rules a pack has.

@@ -6,14 +6,14 @@ use records::Wanted;
 ghost use mathlib.Core.Path.{_≡_};
 ghost use Prim.Native.Nat.{_+_, _%_, _≤_};
 ghost use lib.ListN.{length, drop};
-ghost use Rattle.records.specs.Answers.{outcome-of};
+ghost use Rattle.records.specs.Answers.{answer-outcome};
 ghost use Rattle.records.specs.Records.{all-records};
 ghost use Rattle.pack_reader.specs.Stored.{node-outcome, coded, node-steps, Nodes-read};
 
 // A node's byte: 2 for a field that is not zero, 3 for a number out of range.
 pub fn node_code(r: Record, symbols: usize) -> Answer
     requires { ⌜ symbols ≤ 64 ⌝ }
-    ensures { λ x. ⌜ outcome-of x ≡ coded (node-outcome symbols r) ⌝ }
+    ensures { λ x. ⌜ answer-outcome x ≡ coded (node-outcome symbols r) ⌝ }
 {
     if r.one != 0 {
         return Answer::Refused(Refusal::StrayRecord);

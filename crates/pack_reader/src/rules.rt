@@ -7,14 +7,14 @@ ghost use mathlib.Core.Path.{_≡_};
 ghost use mathlib.Core.List.{[]};
 ghost use Prim.Native.Nat.{ℕ, _+_, _*_, _%_, _≤_, _<_};
 ghost use lib.ListN.{length, getD, drop, take, set, replicate};
-ghost use Rattle.records.specs.Answers.{outcome-of};
+ghost use Rattle.records.specs.Answers.{answer-outcome};
 ghost use Rattle.records.specs.Records.{all-records, record-at};
-ghost use Rattle.packs.specs.Reading.{pack-from, between-rules};
+ghost use Rattle.packs.specs.PackReading.{pack-from, between-rules};
 ghost use Rattle.pack_reader.specs.Stored.{rule-header, node-steps, Rule-read, Rules-read, row-after, Marked};
 
 // R's fields: 2, then 3.
 fn header(r: Record, i: usize) -> Answer
-    ensures { λ x. ⌜ outcome-of x ≡ rule-header i r ⌝ }
+    ensures { λ x. ⌜ answer-outcome x ≡ rule-header i r ⌝ }
 {
     if r.one != 0 {
         return Answer::Refused(Refusal::StrayRecord);

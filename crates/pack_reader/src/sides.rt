@@ -5,7 +5,7 @@ ghost use mathlib.Core.Path.{_≡_};
 ghost use Prim.Native.Nat.{_≤_, _<_};
 ghost use mathlib.Core.Bool.{true, false};
 ghost use lib.ListN.{length, replicate};
-ghost use Rattle.records.specs.Answers.{outcome-of};
+ghost use Rattle.records.specs.Answers.{answer-outcome};
 ghost use Rattle.terms.specs.Kept.{balanced, part};
 ghost use Rattle.pack_reader.specs.Stored.{all-seen, Seen-in, rule-judged};
 
@@ -70,7 +70,7 @@ fn right_side(arities: &[u8], nodes: &[u8], from: usize, to: usize, seen: &[bool
 // A rule after its last node: 4, 5, 6.
 pub fn judge_rule(arities: &[u8], nodes: &[u8], left: usize, right: usize, end: usize) -> Answer
     requires { ⌜ (length (now arities) ≡ 64) × (left < right) × (right ≤ end) × (end ≤ length (now nodes)) × (end ≤ 65536) ⌝ }
-    ensures { λ r. ⌜ outcome-of r ≡ rule-judged (now (arities .entry)) (part (now (nodes .entry)) left right) (part (now (nodes .entry)) right end) ⌝ }
+    ensures { λ r. ⌜ answer-outcome r ≡ rule-judged (now (arities .entry)) (part (now (nodes .entry)) left right) (part (now (nodes .entry)) right end) ⌝ }
 {
     let mut seen = [false; 16];
     if !left_side(arities, nodes, left, right, &mut seen) {

@@ -6,13 +6,13 @@ use records::Wanted;
 ghost use mathlib.Core.Path.{_≡_};
 ghost use Prim.Native.Nat.{_%_, _≤_};
 ghost use lib.ListN.{length};
-ghost use Rattle.records.specs.Answers.{outcome-of};
+ghost use Rattle.records.specs.Answers.{answer-outcome};
 ghost use Rattle.records.specs.Records.{all-records};
 ghost use Rattle.pack_reader.specs.Stored.{arity-outcome, symbol-steps, Symbols-read};
 
 // The arity that symbol i's record gives: 2, then 3.
 fn arity_of(r: Record, i: usize) -> Answer
-    ensures { λ x. ⌜ outcome-of x ≡ arity-outcome i r ⌝ }
+    ensures { λ x. ⌜ answer-outcome x ≡ arity-outcome i r ⌝ }
 {
     if r.one != 0 {
         return Answer::Refused(Refusal::StrayRecord);

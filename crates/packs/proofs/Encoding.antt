@@ -9,14 +9,14 @@ use lib.ListN.{length, length-append}
 use borrow.Author.Tests.{le-ltb, eq-eqb}
 use Rattle.rewriting.specs.Terms.{Rule, System, rule, no-rule}
 use Rattle.rewriting.specs.Systems.{Good-rule, Good}
-use Rattle.rewriting.proofs.Basics.{Each, each-head, each-tail, each-append, each-by}
+use Rattle.rewriting.proofs.Basics.{Each, each-head, each-tail, each-append, each-by, each-at}
 use Rattle.rewriting.proofs.Trees.{term-not-list, term-well}
 use Rattle.records.specs.declared.Record.{Record}
 use Rattle.records.specs.Records.{a-record, all-record-bytes, length-bad, all-bytes}
 use Rattle.records.specs.Order.{S-symbol, R-rule}
 use Rattle.records.proofs.Bytes.{In-range, All-in-range, in-range-append, length-of-bytes, all-bytes-of-records}
 use Rattle.terms.specs.Sides.{Node, variable, symbol, flat}
-use Rattle.packs.specs.Reading.{most-bytes, most-symbols, most-arity, most-rules, most-nodes, variable-count}
+use Rattle.packs.specs.PackReading.{most-pack-bytes, most-symbols, most-arity, most-rules, most-nodes, variable-count}
 use Rattle.packs.specs.Encoding.{node-record, node-records, symbol-records, rule-records, pack-records, pack-bytes, Good-pack}
 use Rattle.terms.proofs.Parsing.{Node-fits, nodes-fit, flat-positive}
 
@@ -29,6 +29,20 @@ pub record Rule-fits (p : System) (u : Rule) : Type 0 where
 pub rules-fit : (p : System) → Good-pack p → Each (Rule-fits p) (p .rules)
 unfolding rule Good
 rules-fit p g = each-by no-rule (p .rules) (λ i h. record { left-nodes = g .lefts i h; right-nodes = g .rights i h; good = g .good i h })
+
+-- and a pack of such rules is good
+pub fit-good : (p : System) → length (p .arities) ≤ most-symbols → Each (λ n. n ≤ most-arity) (p .arities) → length (p .rules) ≤ most-rules
+    → Each (Rule-fits p) (p .rules) → Good-pack p
+unfolding Good rule
+fit-good p symbols small count fit =
+    record {
+      symbols = symbols;
+      arities-small = each-at 0 small;
+      rule-count = count;
+      lefts = λ i h. each-at no-rule fit i h .left-nodes;
+      rights = λ i h. each-at no-rule fit i h .right-nodes;
+      good = λ i h. each-at no-rule fit i h .good;
+    }
 
 -- PIECES
 
@@ -125,19 +139,19 @@ module _ (p : System) (g : Good-pack p) where
       (symbols-in-range 0 (p .arities) (omega (arith, g .symbols)) (each-by 0 (p .arities) (g .arities-small)))
       (rules-in-range p 0 (p .rules) (omega (arith, g .rule-count)) (g .symbols) (rules-fit p g))
 
-  records-few : 8 * length (pack-records p) ≤ most-bytes
+  records-few : 8 * length (pack-records p) ≤ most-pack-bytes
   unfolding pack-records
   records-few =
       let rules = length-rules p 0 (p .rules) (rules-fit p g) in
       simp (length-append, length-symbols) (omega (arith, g .symbols, g .rule-count))
 
-  pub length-good : length-bad most-bytes (pack-bytes p) ≡ false
+  pub length-good : length-bad most-pack-bytes (pack-bytes p) ≡ false
   unfolding length-bad pack-bytes
   length-good =
       let few = records-few in
       let l = length-of-bytes (pack-records p) in
       let n = length (all-record-bytes (pack-records p)) in
-      rw (le-ltb most-bytes n (omega arith), eq-eqb (n % 8) 0 (omega arith))
+      rw (le-ltb most-pack-bytes n (omega arith), eq-eqb (n % 8) 0 (omega arith))
 
   pub bytes-good : all-bytes (pack-bytes p) ≡ true
   unfolding pack-bytes

@@ -18,7 +18,7 @@ use Rattle.records.specs.Order.{S-symbol, R-rule, F-application, V-variable, in
 use Rattle.records.proofs.Outcomes.{not-passed, passed-same, test-held, after-passed}
 use Rattle.records.proofs.Table.{Kind, is-S, is-R, is-F, is-V, is-C, is-P, is-W, is-M, is-other, kind-of, pack-apart, may-follow-entry}
 use Rattle.terms.specs.Sides.{Node, variable, symbol, side}
-use Rattle.packs.specs.Reading.{Reading, between-rules, most-symbols, most-arity, most-rules, variable-count, symbol-read, side-count, rule-read, node-zeros, node-in-range, node-of, rule-of, rule-ended, node-read, pack-step, pack-from}
+use Rattle.packs.specs.PackReading.{Pack-reading, between-rules, most-symbols, most-arity, most-rules, variable-count, symbol-read, side-count, rule-read, node-zeros, node-in-range, node-of, rule-of, rule-ended, node-read, pack-step, pack-from}
 use Rattle.packs.specs.Encoding.{node-record}
 use Rattle.terms.proofs.Parsing.{Node-fits}
 
@@ -35,7 +35,7 @@ pub record Makes-rule (ar : List ℕ) (lefts : ℕ) (ns : List Node) (u : Rule) 
   pub no-new : all-in (variables (u .right)) (variables (u .left)) ≡ true
 
 -- from a reading a record leads to the next: a symbol, a rule's head, a node inside a rule, a rule's last node
-pub data Reads (x : Reading) : Record → Reading → Type 0 where
+pub data Reads (x : Pack-reading) : Record → Pack-reading → Type 0 where
   reads-symbol : (n : ℕ) → may-follow (x .last) 1 (x .due) false ≡ true → length (x .arities) < most-symbols → n ≤ most-arity
       → Reads x (a-record S-symbol (length (x .arities)) n 0) (between-rules 1 (x .arities ++ (n ∷ [])) (x .rules))
   reads-rule : (b c : ℕ) → may-follow (x .last) 2 (x .due) false ≡ true → length (x .rules) < most-rules → side-count b ≡ true → side-count c ≡ true
@@ -70,28 +70,28 @@ unfolding node-in-range node-record
 fits-in-range ar vs (variable v) h = lt-ltb v vs h
 fits-in-range ar vs (symbol f) h = lt-ltb f (length ar) h
 
-step-is-node : (n : Node) (x : Reading) → may-follow (x .last) (node-row n) (x .due) false ≡ true → pack-step (node-record n) x ≡ node-read (node-record n) x
+pub step-is-node : (n : Node) (x : Pack-reading) → may-follow (x .last) (node-row n) (x .due) false ≡ true → pack-step (node-record n) x ≡ node-read (node-record n) x
 unfolding pack-step index node-record
 step-is-node (variable v) x h = rw h
 step-is-node (symbol f) x h = rw h
 
-module _ (n : Node) (x : Reading) (fits : Node-fits (x .arities) variable-count n) where
+module _ (n : Node) (x : Pack-reading) (fits : Node-fits (x .arities) variable-count n) where
   node-goes-on : (x .due ≡ 1 → ⊥)
       → node-read (node-record n) x
       ≡ passed (record { last = node-row n; arities = x .arities; rules = x .rules; lefts = x .lefts; due = x .due - 1; nodes = x .nodes ++ (n ∷ []) })
   unfolding node-read
   node-goes-on due = rw (node-written n, fits-in-range (x .arities) variable-count n fits, node-kind n, node-is n, ne-eqb (x .due) 1 due)
 
-  node-ends : x .due ≡ 1 → node-read (node-record n) x ≡ rule-ended (node-row n) x (x .nodes ++ (n ∷ []))
+  pub node-ends : x .due ≡ 1 → node-read (node-record n) x ≡ rule-ended (node-row n) x (x .nodes ++ (n ∷ []))
   unfolding node-read
   node-ends due = rw (node-written n, fits-in-range (x .arities) variable-count n fits, node-kind n, node-is n, eq-eqb (x .due) 1 due)
 
-rule-ends : (k : ℕ) (x : Reading) (ns : List Node) (u : Rule) → Makes-rule (x .arities) (x .lefts) ns u
+rule-ends : (k : ℕ) (x : Pack-reading) (ns : List Node) (u : Rule) → Makes-rule (x .arities) (x .lefts) ns u
     → rule-ended k x ns ≡ passed (between-rules k (x .arities) (x .rules ++ (u ∷ [])))
 unfolding rule-ended rule-of
 rule-ends k x ns u m = rw (m .left-side, m .right-side, m .left-applied, m .no-new)
 
-pub reads-passes : (x y : Reading) (r : Record) → Reads x r y → pack-step r x ≡ passed y
+pub reads-passes : (x y : Pack-reading) (r : Record) → Reads x r y → pack-step r x ≡ passed y
 unfolding pack-step index symbol-read rule-read
 reads-passes x _ _ (reads-symbol n h few small) = rw (h, eq-eqb _ _ refl, lt-ltb _ _ few, le-leb _ _ small)
 reads-passes x _ _ (reads-rule b c h few left right) = rw (h, eq-eqb _ _ refl, lt-ltb _ _ few, left, right)
@@ -100,7 +100,7 @@ reads-passes x _ _ (reads-last n u h fits due m) = step-is-node n x h ∙ node-e
 
 -- AND IN NO OTHER WAY: a step that passes is one of the four
 
-abbrev record-of : (kind one a b c : ℕ) → Record
+abbrev pub record-of : (kind one a b c : ℕ) → Record
 record-of k one a b c = record { kind = k; one = one; a = a; b = b; c = c }
 
 abbrev pub Made : Option Tree → Option Tree → Rule → Type 0
@@ -111,18 +111,18 @@ unfolding rule-of
 rule-of-passed none r u e = not-passed e
 rule-of-passed (some l) none u e = not-passed e
 rule-of-passed (some l) (some r) u e =
-    let applied = test-held (is-app l) _ 5 e in
-    let bound = test-held (all-in (variables r) (variables l)) _ 6 (applied .1) in
+    let applied = test-held (is-app l) _ _ e in
+    let bound = test-held (all-in (variables r) (variables l)) _ _ (applied .1) in
     subst (Made (some l) (some r)) (passed-same (bound .1)) (refl, refl, applied .0, bound .0)
 
-module _ (x y : Reading) (one a b c : ℕ) where
+module _ (x y : Pack-reading) (one a b c : ℕ) where
   symbol-passes : may-follow (x .last) 1 (x .due) false ≡ true
       → symbol-read (record-of S-symbol one a b c) x ≡ passed y
       → Reads x (record-of S-symbol one a b c) y
   unfolding symbol-read index
   symbol-passes h e =
-      let zeros = test-held (eqb one 0 && (eqb c 0 && eqb a (length (x .arities)))) _ 2 e in
-      let range = test-held (ltb (length (x .arities)) most-symbols && leb b most-arity) _ 3 (zeros .1) in
+      let zeros = test-held (eqb one 0 && (eqb c 0 && eqb a (length (x .arities)))) _ _ e in
+      let range = test-held (ltb (length (x .arities)) most-symbols && leb b most-arity) _ _ (zeros .1) in
       let fields = and-right (eqb one 0) _ (zeros .0) in
       let one-zero : one ≡ 0 = eqb-true _ _ (and-left _ _ (zeros .0)) in
       let c-zero : c ≡ 0 = eqb-true _ _ (and-left _ _ fields) in
@@ -136,8 +136,8 @@ module _ (x y : Reading) (one a b c : ℕ) where
       → Reads x (record-of R-rule one a b c) y
   unfolding rule-read index
   rule-passes h e =
-      let zeros = test-held (eqb one 0 && eqb a (length (x .rules))) _ 2 e in
-      let range = test-held (ltb (length (x .rules)) most-rules && (side-count b && side-count c)) _ 3 (zeros .1) in
+      let zeros = test-held (eqb one 0 && eqb a (length (x .rules))) _ _ e in
+      let range = test-held (ltb (length (x .rules)) most-rules && (side-count b && side-count c)) _ _ (zeros .1) in
       let one-zero : one ≡ 0 = eqb-true _ _ (and-left _ _ (zeros .0)) in
       let number : a ≡ length (x .rules) = eqb-true _ _ (and-right (eqb one 0) _ (zeros .0)) in
       let few = ltb-true (length (x .rules)) most-rules (and-left _ _ (range .0)) in
@@ -145,7 +145,7 @@ module _ (x y : Reading) (one a b c : ℕ) where
       rw (one-zero, number, ← (passed-same (range .1))) (reads-rule b c h few (and-left _ _ counts) (and-right (side-count b) _ counts))
 
 -- a node record, whichever of the two
-node-passes : (n : Node) (x y : Reading) → may-follow (x .last) (node-row n) (x .due) false ≡ true → Node-fits (x .arities) variable-count n
+node-passes : (n : Node) (x y : Pack-reading) → may-follow (x .last) (node-row n) (x .due) false ≡ true → Node-fits (x .arities) variable-count n
     → node-read (node-record n) x ≡ passed y → Reads x (node-record n) y
 unfolding rule-ended
 node-passes n x y h fits e =
@@ -167,14 +167,14 @@ node-fields k one a b c h =
     let fields = and-right (eqb one 0) _ h in
     (eqb-true _ _ (and-left _ _ h), eqb-true _ _ (and-left _ _ fields), eqb-true _ _ (and-right (eqb b 0) _ fields))
 
-module _ (x y : Reading) (one a b c : ℕ) where
+module _ (x y : Pack-reading) (one a b c : ℕ) where
   application-passes : may-follow (x .last) 3 (x .due) false ≡ true
       → node-read (record-of F-application one a b c) x ≡ passed y
       → Reads x (record-of F-application one a b c) y
   unfolding node-read node-record node-in-range
   application-passes h e =
-      let zeros = test-held (node-zeros (record-of F-application one a b c)) _ 2 e in
-      let range = test-held (ltb a (length (x .arities))) _ 3 (zeros .1) in
+      let zeros = test-held (node-zeros (record-of F-application one a b c)) _ _ e in
+      let range = test-held (ltb a (length (x .arities))) _ _ (zeros .1) in
       let z = node-fields F-application one a b c (zeros .0) in
       rw (z .0, z .1, z .2) (node-passes (symbol a) x y h (ltb-true _ _ (range .0)) (rw (z .0, z .1, z .2) at e))
 
@@ -183,8 +183,8 @@ module _ (x y : Reading) (one a b c : ℕ) where
       → Reads x (record-of V-variable one a b c) y
   unfolding node-read node-record node-in-range
   variable-passes h e =
-      let zeros = test-held (node-zeros (record-of V-variable one a b c)) _ 2 e in
-      let range = test-held (ltb a variable-count) _ 3 (zeros .1) in
+      let zeros = test-held (node-zeros (record-of V-variable one a b c)) _ _ e in
+      let range = test-held (ltb a variable-count) _ _ (zeros .1) in
       let z = node-fields V-variable one a b c (zeros .0) in
       rw (z .0, z .1, z .2) (node-passes (variable a) x y h (ltb-true _ _ (range .0)) (rw (z .0, z .1, z .2) at e))
 
@@ -192,25 +192,25 @@ module _ (x y : Reading) (one a b c : ℕ) where
 pub foreign : {C : Type 0} (row next due : ℕ) → row < 5 → 5 ≤ next → next ≤ 10 → may-follow row next due false ≡ true → C
 foreign row next due h k l e = absurd (may-follow-entry row next due false e (pack-apart row next h k l))
 
-of-kind : (x y : Reading) (k one a b c : ℕ) → Kind k → x .last < 5 → pack-step (record-of k one a b c) x ≡ passed y
+of-kind : (x y : Pack-reading) (k one a b c : ℕ) → Kind k → x .last < 5 → pack-step (record-of k one a b c) x ≡ passed y
     → Reads x (record-of k one a b c) y
 unfolding pack-step index
-of-kind x y _ one a b c is-S row e = let t = test-held _ _ 2 e in symbol-passes x y one a b c (t .0) (t .1)
-of-kind x y _ one a b c is-R row e = let t = test-held _ _ 2 e in rule-passes x y one a b c (t .0) (t .1)
-of-kind x y _ one a b c is-F row e = let t = test-held _ _ 2 e in application-passes x y one a b c (t .0) (t .1)
-of-kind x y _ one a b c is-V row e = let t = test-held _ _ 2 e in variable-passes x y one a b c (t .0) (t .1)
-of-kind x y _ one a b c is-C row e = foreign (x .last) 6 (x .due) row (omega arith) (omega arith) (test-held _ _ 2 e .0)
-of-kind x y _ one a b c is-P row e = foreign (x .last) 7 (x .due) row (omega arith) (omega arith) (test-held _ _ 2 e .0)
-of-kind x y _ one a b c is-W row e = foreign (x .last) 8 (x .due) row (omega arith) (omega arith) (test-held _ _ 2 e .0)
-of-kind x y _ one a b c is-M row e = foreign (x .last) 9 (x .due) row (omega arith) (omega arith) (test-held _ _ 2 e .0)
+of-kind x y _ one a b c is-S row e = let t = test-held _ _ _ e in symbol-passes x y one a b c (t .0) (t .1)
+of-kind x y _ one a b c is-R row e = let t = test-held _ _ _ e in rule-passes x y one a b c (t .0) (t .1)
+of-kind x y _ one a b c is-F row e = let t = test-held _ _ _ e in application-passes x y one a b c (t .0) (t .1)
+of-kind x y _ one a b c is-V row e = let t = test-held _ _ _ e in variable-passes x y one a b c (t .0) (t .1)
+of-kind x y _ one a b c is-C row e = foreign (x .last) 6 (x .due) row (omega arith) (omega arith) (test-held _ _ _ e .0)
+of-kind x y _ one a b c is-P row e = foreign (x .last) 7 (x .due) row (omega arith) (omega arith) (test-held _ _ _ e .0)
+of-kind x y _ one a b c is-W row e = foreign (x .last) 8 (x .due) row (omega arith) (omega arith) (test-held _ _ _ e .0)
+of-kind x y _ one a b c is-M row e = foreign (x .last) 9 (x .due) row (omega arith) (omega arith) (test-held _ _ _ e .0)
 of-kind x y _ one a b c (is-other k i) row e =
-    let h : may-follow (x .last) (index k) (x .due) false ≡ true = test-held _ _ 2 e .0 in
+    let h : may-follow (x .last) (index k) (x .due) false ≡ true = test-held _ _ _ e .0 in
     foreign (x .last) 10 (x .due) row (omega arith) (omega arith) (rw i at h)
 
-pub passes-reads : (x y : Reading) (r : Record) → x .last < 5 → pack-step r x ≡ passed y → Reads x r y
+pub passes-reads : (x y : Pack-reading) (r : Record) → x .last < 5 → pack-step r x ≡ passed y → Reads x r y
 passes-reads x y r row e = of-kind x y (r .kind) (r .one) (r .a) (r .b) (r .c) (kind-of (r .kind)) row e
 
 -- A RECORD THAT MAY NOT STAND HERE, whatever follows it
-pub stray-record : (x : Reading) (r : Record) (rs : List Record) → may-follow (x .last) (index (r .kind)) (x .due) false ≡ false → pack-from (r ∷ rs) x ≡ refused 2
+pub stray-record : (x : Pack-reading) (r : Record) (rs : List Record) → may-follow (x .last) (index (r .kind)) (x .due) false ≡ false → pack-from (r ∷ rs) x ≡ refused 2
 unfolding pack-from pack-step
 stray-record x r rs e = rw e

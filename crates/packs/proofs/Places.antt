@@ -9,7 +9,7 @@ use lib.Dec.{eqb}
 use lib.ListN.{length}
 use borrow.Author.Tests.{le-leb, eqb-true}
 use Rattle.rewriting.specs.Terms.{Rule}
-use Rattle.records.specs.Order.{S-symbol, R-rule, index, order, lets, may-follow}
+use Rattle.records.specs.Order.{S-symbol, R-rule, index, entry, order, when-in, lets, may-follow}
 use Rattle.records.proofs.Table.{Kind, is-S, is-R, is-F, is-V, is-C, is-P, is-W, is-M, is-other}
 use Rattle.terms.specs.Sides.{Node, variable, symbol}
 use Rattle.packs.proofs.OneRecord.{node-row, foreign}
@@ -44,14 +44,14 @@ between-row (after-symbol-node ar rs) = omega arith
 between-row (after-variable-node ar rs) = omega arith
 
 pub between-end : {last : ℕ} {ar : List ℕ} {rs : List Rule} → Between last ar rs → may-follow last 0 0 false ≡ true
-unfolding may-follow order lets
+unfolding may-follow entry order when-in lets
 between-end at-start = refl
 between-end (after-symbol ar) = refl
 between-end (after-symbol-node ar rs) = refl
 between-end (after-variable-node ar rs) = refl
 
 pub between-rule : {last : ℕ} {ar : List ℕ} {rs : List Rule} → Between last ar rs → 0 < length ar → may-follow last 2 0 false ≡ true
-unfolding may-follow order lets
+unfolding may-follow entry order when-in lets
 between-rule at-start h = absurd (omega arith)
 between-rule (after-symbol ar) h = refl
 between-rule (after-symbol-node ar rs) h = refl
@@ -59,14 +59,14 @@ between-rule (after-variable-node ar rs) h = refl
 
 -- symbols come before all rules
 pub between-symbol : {last : ℕ} {ar : List ℕ} {rs : List Rule} → Between last ar rs → may-follow last 1 0 false ≡ true → rs ≡ []
-unfolding may-follow order lets
+unfolding may-follow entry order when-in lets
 between-symbol at-start h = refl
 between-symbol (after-symbol ar) h = refl
 between-symbol (after-symbol-node ar rs) h = absurd (false≢true h)
 between-symbol (after-variable-node ar rs) h = absurd (false≢true h)
 
 pub between-no-node : {last : ℕ} {ar : List ℕ} {rs : List Rule} → Between last ar rs → (n : Node) → may-follow last (node-row n) 0 false ≡ true → ⊥
-unfolding may-follow order lets
+unfolding may-follow entry order when-in lets
 between-no-node at-start (variable v) h = false≢true h
 between-no-node at-start (symbol f) h = false≢true h
 between-no-node (after-symbol ar) (variable v) h = false≢true h
@@ -84,7 +84,7 @@ inside-row at-symbol-node = omega arith
 inside-row at-variable-node = omega arith
 
 pub inside-node : {last : ℕ} → Inside last → (n : Node) (due : ℕ) → 1 ≤ due → may-follow last (node-row n) due false ≡ true
-unfolding may-follow order lets
+unfolding may-follow entry order when-in lets
 inside-node at-rule (variable v) due h = refl
 inside-node at-rule (symbol f) due h = refl
 inside-node at-symbol-node (variable v) due h = le-leb 1 due h
@@ -93,19 +93,19 @@ inside-node at-variable-node (variable v) due h = le-leb 1 due h
 inside-node at-variable-node (symbol f) due h = le-leb 1 due h
 
 pub inside-no-symbol : {last : ℕ} → Inside last → (due : ℕ) → may-follow last 1 due false ≡ true → ⊥
-unfolding may-follow order lets
+unfolding may-follow entry order when-in lets
 inside-no-symbol at-rule due h = false≢true h
 inside-no-symbol at-symbol-node due h = false≢true h
 inside-no-symbol at-variable-node due h = false≢true h
 
 pub inside-no-rule : {last : ℕ} → Inside last → (due : ℕ) → 1 ≤ due → may-follow last 2 due false ≡ true → ⊥
-unfolding may-follow order lets
+unfolding may-follow entry order when-in lets
 inside-no-rule at-rule due l h = false≢true h
 inside-no-rule at-symbol-node due l h = let z = eqb-true due 0 h in omega arith
 inside-no-rule at-variable-node due l h = let z = eqb-true due 0 h in omega arith
 
 pub inside-no-end : {last : ℕ} → Inside last → (due : ℕ) → 1 ≤ due → may-follow last 0 due false ≡ true → ⊥
-unfolding may-follow order lets
+unfolding may-follow entry order when-in lets
 inside-no-end at-rule due l h = false≢true h
 inside-no-end at-symbol-node due l h = let z = eqb-true due 0 h in omega arith
 inside-no-end at-variable-node due l h = let z = eqb-true due 0 h in omega arith

@@ -13,12 +13,13 @@ use Rattle.rewriting.specs.Systems.{is-app}
 use Rattle.rewriting.proofs.Basics.{Each, each-head, each-tail, each-by}
 use Rattle.rewriting.proofs.Trees.{term-well}
 use Rattle.records.specs.declared.Record.{Record}
-use Rattle.records.specs.Outcomes.{passed}
+use Rattle.records.specs.Outcomes.{passed, after}
 use Rattle.records.specs.Records.{a-record}
-use Rattle.records.specs.Order.{R-rule, order, lets, may-follow, pack-edge}
+use Rattle.records.specs.Order.{R-rule, entry, order, when-in, lets, may-follow, pack-edge}
+use Rattle.records.proofs.Outcomes.{after-same, after-after}
 use Rattle.records.proofs.Bytes.{records-of-bytes}
 use Rattle.terms.specs.Sides.{Node, flat}
-use Rattle.packs.specs.Reading.{Reading, between-rules, most-symbols, most-arity, most-rules, most-nodes, variable-count, side-count, pack-end, pack-from, read-pack}
+use Rattle.packs.specs.PackReading.{Pack-reading, between-rules, most-symbols, most-arity, most-rules, most-nodes, variable-count, side-count, pack-step, pack-end, pack-from, pack-steps, read-pack}
 use Rattle.packs.specs.Encoding.{node-records, symbol-records, rule-records, pack-records, pack-bytes, Good-pack}
 use Rattle.terms.proofs.Parsing.{well-app, Node-fits, side-flat}
 use Rattle.packs.proofs.Encoding.{Rule-fits, rules-fit, left-positive, right-positive, sides-fit, nodes-left-right, records-in-range, length-good}
@@ -27,14 +28,25 @@ use Rattle.packs.proofs.Places.{Between, at-start, after-symbol, after-
 
 -- ONE STEP AFTER ANOTHER
 
-from-step : (x y : Reading) (r : Record) (rs : List Record) → Reads x r y → pack-from (r ∷ rs) x ≡ pack-from rs y
+from-step : (x y : Pack-reading) (r : Record) (rs : List Record) → Reads x r y → pack-from (r ∷ rs) x ≡ pack-from rs y
 unfolding pack-from
 from-step x y r rs h = rw (reads-passes x y r h)
+
+-- the records, then the end
+pub from-steps : (rs : List Record) (x : Pack-reading) → pack-from rs x ≡ after (pack-steps rs x) pack-end
+unfolding pack-from pack-steps
+from-steps [] x = refl
+from-steps (r ∷ rs) x = after-same (pack-step r x) _ _ (from-steps rs) ∙ sym (after-after (pack-step r x) _ pack-end)
+
+pub steps-append : (rs more : List Record) (x : Pack-reading) → pack-steps (rs ++ more) x ≡ after (pack-steps rs x) (pack-steps more)
+unfolding pack-steps
+steps-append [] more x = refl
+steps-append (r ∷ rs) more x = after-same (pack-step r x) _ _ (steps-append rs more) ∙ sym (after-after (pack-step r x) _ (pack-steps more))
 
 -- the symbols, after those read so far
 symbols-back : (done todo : List ℕ) (more : List Record) → length done + length todo ≤ most-symbols → Each (λ n. n ≤ most-arity) todo
     → pack-from (symbol-records (length done) todo ++ more) (between-rules 1 done []) ≡ pack-from more (between-rules 1 (done ++ todo) [])
-unfolding symbol-records may-follow order lets
+unfolding symbol-records may-follow entry order when-in lets
 symbols-back done [] more few small = ap (λ (l : List ℕ). pack-from more (between-rules 1 l [])) (sym (append-nil done))
 symbols-back done (n ∷ todo) more few small =
     let grown : length (done ++ (n ∷ [])) ≡ suc (length done) = length-append done (n ∷ []) ∙ omega arith in
@@ -43,7 +55,7 @@ symbols-back done (n ∷ todo) more few small =
 
 -- the nodes of a rule, after those read so far; the last of them ends the rule
 module _ (ar : List ℕ) (rs : List Rule) (lefts : ℕ) (u : Rule) (more : List Record) where
-  abbrev inside : (last due : ℕ) → List Node → Reading
+  abbrev inside : (last due : ℕ) → List Node → Pack-reading
   inside last due ns = record { last = last; arities = ar; rules = rs; lefts = lefts; due = due; nodes = ns }
 
   nodes-back : (n : Node) (todo done : List Node) (last due : ℕ) → Inside last → due ≡ suc (length todo)
@@ -62,7 +74,7 @@ module _ (ar : List ℕ) (rs : List Rule) (lefts : ℕ) (u : Rule) (more : List 
   all-nodes-back [] due h e fits makes = absurd (omega arith)
   all-nodes-back (n ∷ todo) due h e fits makes = nodes-back n todo [] 2 due at-rule e fits makes
 
-count-small : (n : ℕ) → 0 < n → n ≤ most-nodes → side-count n ≡ true
+pub count-small : (n : ℕ) → 0 < n → n ≤ most-nodes → side-count n ≡ true
 unfolding side-count
 count-small n h k = rw (le-leb 1 n h, le-leb n most-nodes k)
 
@@ -120,7 +132,7 @@ rules-back p (u ∷ todo) done last at few fits =
 
 -- the records of a good pack are read back
 pub records-back : (p : System) → Good-pack p → pack-from (pack-records p) (between-rules pack-edge [] []) ≡ passed p
-unfolding pack-records symbol-records may-follow order lets
+unfolding pack-records symbol-records may-follow entry order when-in lets
 records-back p g = go (p .arities) (p .rules) g
   where
     go : (ar : List ℕ) (rs : List Rule) → Good-pack (record { arities = ar; rules = rs })

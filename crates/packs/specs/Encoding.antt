@@ -1,10 +1,8 @@
 -- The way back: the bytes of a system, and which systems can be written.
-use mathlib.Core.Path.{_≡_}
-use mathlib.Core.Bool.{Bool, true, false, _&&_}
 use mathlib.Core.List.{List, [], _∷_, _++_}
-use Prim.Native.Nat.{ℕ, zero, suc, _+_, _≤_, _<_}
+use Prim.Native.Nat.{ℕ, suc, _+_, _≤_, _<_}
 use lib.ListN.{length, getD}
-use Rattle.rewriting.specs.Terms.{Tree, Rule, System, rule}
+use Rattle.rewriting.specs.Terms.{Rule, System, rule}
 use Rattle.rewriting.specs.Systems.{Good}
 use Rattle.records.specs.declared.Record.{Record}
 use Rattle.records.specs.Records.{a-record, all-record-bytes}

@@ -1,27 +1,18 @@
 -- Pairs' records in the caller's buffer: none, one, and one run of them after another.
 use mathlib.Core.Path.{_≡_, refl, sym, ap, _∙_}
 use mathlib.Core.List.{List, [], _∷_, _++_, append-assoc, append-nil}
-use Prim.Native.Nat.{ℕ, suc, _+_, _*_, _≤_}
+use Prim.Native.Nat.{ℕ, _+_, _*_, _≤_}
 use native.Mathlib.Nat.{add-zero}
 use native.Mathlib.Omega.{arith}
 use lib.ListN.{length, take, drop, length-append, take-append-drop}
 use lib.Seq.{length-take-le, take-at, drop-at, drop-drop}
 use Rattle.rewriting.specs.Pairs.{Pair}
 use Rattle.records.specs.Records.{record-bytes, all-record-bytes}
-use Rattle.records.proofs.Bytes.{length-of-bytes}
 use Rattle.pairs.specs.Listing.{pair-record, pair-records, pair-bytes}
+use Rattle.pairs.proofs.Answering.{pair-bytes-long}
 use Rattle.pair_finder.specs.Walking.{Written}
 
 -- THE BYTES of pairs
-
-records-long : (qs : List Pair) → length (pair-records qs) ≡ length qs
-unfolding pair-records
-records-long [] = refl
-records-long (q ∷ qs) = ap suc (records-long qs)
-
-pair-bytes-long : (qs : List Pair) → length (pair-bytes qs) ≡ 8 * length qs
-unfolding pair-bytes
-pair-bytes-long qs = length-of-bytes (pair-records qs) ∙ ap (λ (n : ℕ). 8 * n) (records-long qs)
 
 pair-bytes-append : (qs rs : List Pair) → pair-bytes (qs ++ rs) ≡ pair-bytes qs ++ pair-bytes rs
 unfolding pair-bytes pair-records all-record-bytes

@@ -10,7 +10,7 @@ use Rattle.rewriting.specs.Terms.{Tree, System, rule, is-list, is-term, well, w
 use Rattle.rewriting.specs.Pairs.{Pair, pair-left, pair-right, is-pair, defined}
 use Rattle.records.specs.declared.Answer.{Answer}
 use Rattle.records.specs.Outcomes.{Outcome, refused, passed}
-use Rattle.records.specs.Answers.{outcome-of}
+use Rattle.records.specs.Answers.{answer-outcome}
 use Rattle.terms.specs.Sides.{flat}
 use Rattle.terms.specs.Kept.{Kept, part}
 use Rattle.pack_reader.specs.Stored.{Stored}
@@ -86,7 +86,7 @@ pub record Arc-asked (arities starts nodes marks : List ℕ) (right other : ℕ)
 -- what `place_of` answers: the place among the nodes of a pair's right side, or 7
 unfoldable pub Place-answer : System → (starts : List ℕ) → (at-rule place : ℕ) → Answer → Type 0
 Place-answer p ss i k x =
-    outcome-of x ≡ cond (is-pair p (a-pair i k)) (passed (getD ss (2 * i + 1) 0 + k)) (refused 7)
+    answer-outcome x ≡ cond (is-pair p (a-pair i k)) (passed (getD ss (2 * i + 1) 0 + k)) (refused 7)
 
 -- what `write_in` answers and leaves: the records of `qs` from byte `at` on, all else untouched
 pub record Written (at : ℕ) (qs : List Pair) (r : ℕ) (before now : List ℕ) : Type 0 where

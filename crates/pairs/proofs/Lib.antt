@@ -7,3 +7,5 @@ pub mod Reaching
 pub mod ArcsEnough
 -- which numbers the listing and the arc question give
 pub mod Ranges
+-- what they answer, in order, and what the listing writes
+pub mod Answering

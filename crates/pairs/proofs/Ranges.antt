@@ -10,7 +10,7 @@ use lib.ListN.{length}
 use Rattle.rewriting.specs.Terms.{System}
 use Rattle.rewriting.specs.Pairs.{Pair, is-pair}
 use Rattle.records.specs.Outcomes.{Outcome, refused, passed, after, refusal}
-use Rattle.packs.specs.Reading.{read-pack}
+use Rattle.packs.specs.PackReading.{read-pack}
 use Rattle.pairs.specs.Listing.{pairs}
 use Rattle.pairs.specs.Arcs.{arc}
 use Rattle.pairs.specs.Answers.{listing, arc-question}

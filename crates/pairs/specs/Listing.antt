@@ -1,8 +1,8 @@
 -- All dependency pairs of a system, rising by rule and place.
 -- A pair whose right side is a subterm of its left is a pair as any other: document 01 drops none.
-use mathlib.Core.Bool.{Bool, true, false, _&&_, cond}
+use mathlib.Core.Bool.{Bool, _&&_, cond}
 use mathlib.Core.List.{List, [], _∷_, _++_}
-use Prim.Native.Nat.{ℕ, zero, suc, _+_}
+use Prim.Native.Nat.{ℕ, suc, _+_}
 use lib.Dec.{eqb}
 use Rattle.rewriting.specs.Terms.{Tree, Rule, System}
 use Rattle.rewriting.specs.Pairs.{Pair, subterms, defined-root}

@@ -7,17 +7,17 @@ use lib.ListN.{length}
 use Rattle.rewriting.specs.Pairs.{Pair}
 use Rattle.records.specs.declared.Answer.{Answer}
 use Rattle.records.specs.Outcomes.{Outcome, refused, passed}
-use Rattle.records.specs.Answers.{number-of, outcome-of}
+use Rattle.records.specs.Answers.{number-of, answer-outcome}
 use Rattle.pairs.specs.declared.ArcAnswer.{ArcAnswer}
 use Rattle.pairs.specs.declared.ArcAnswer.the-variants.{Yes, No, Refused}
 
 -- the listing's refusal, or how many pairs there are
-unfoldable pub counted : Outcome (List Pair) → Outcome ℕ
-counted (refused n) = refused n
-counted (passed qs) = passed (length qs)
+unfoldable pub count-outcome : Outcome (List Pair) → Outcome ℕ
+count-outcome (refused n) = refused n
+count-outcome (passed qs) = passed (length qs)
 
 unfoldable pub Listed-as : Outcome (List Pair) → Answer → Type 0
-Listed-as o r = outcome-of r ≡ counted o
+Listed-as o r = answer-outcome r ≡ count-outcome o
 
 abbrev pub arc-outcome : ArcAnswer → Outcome Bool
 arc-outcome Yes = passed true

@@ -15,7 +15,7 @@ use Rattle.terms.proofs.Parsing.{length-flat}
 use Rattle.packs.specs.Encoding.{Good-pack}
 use Rattle.pairs.specs.Listing.{a-pair}
 use Rattle.certificates.specs.Components.{Component, no-component}
-use Rattle.certificates.specs.Reading.{read-certificate}
+use Rattle.certificates.specs.CertificateReading.{read-certificate}
 use Rattle.certificates.proofs.Shapes.{Shaped}
 use Rattle.certificates.proofs.Encoding.{components-few}
 use Rattle.certificates.proofs.OnlyEncodings.{certificate-shaped, certificate-read, length-within}

@@ -10,12 +10,12 @@ use Rattle.rewriting.specs.Terms.{System}
 use Rattle.rewriting.specs.Pairs.{Pair, is-pair}
 use Rattle.records.specs.declared.Answer.{Answer}
 use Rattle.records.specs.Outcomes.{passed, refusal}
-use Rattle.records.specs.Answers.{outcome-of}
+use Rattle.records.specs.Answers.{answer-outcome}
 use Rattle.pack_reader.specs.Stored.{Stored}
 use Rattle.pairs.specs.Listing.{a-pair, pairs, count-pair}
 use Rattle.pairs.specs.Arcs.{arc}
 use Rattle.certificates.specs.Components.{Component}
-use Rattle.certificates.specs.Reading.{read-certificate}
+use Rattle.certificates.specs.CertificateReading.{read-certificate}
 use Rattle.judging.specs.Judge.{plain, all-pairs, each-once, back-arc}
 use Rattle.entries.specs.declared.Entry.{Entry}
 use Rattle.entries.specs.Entries.{none}
@@ -108,4 +108,4 @@ ordered p cs = cond (each-once (pairs p) (all-pairs cs)) (cond (back-arc (plain 
 
 -- what `judge` answers
 unfoldable pub Ordered-as : System → List Component → Answer → Type 0
-Ordered-as p cs r = refusal (outcome-of r) ≡ ordered p cs
+Ordered-as p cs r = refusal (answer-outcome r) ≡ ordered p cs

@@ -2,7 +2,7 @@
 -- each number is given exactly if the demands before it hold, in values over all naturals, and its own fails.
 use mathlib.Core.Path.{_≡_, refl}
 use mathlib.Core.Bool.{Bool, true, false, not, _||_, cond, true≢false}
-use mathlib.Core.Logic.{_↔_, _⊎_, inl, inr}
+use mathlib.Core.Logic.{_↔_, Iff·trans, _⊎_, inl, inr}
 use mathlib.Core.List.{List, [], _∷_}
 use Prim.Native.Nat.{ℕ, _≤_, _<_}
 use native.Mathlib.Omega.{arith}
@@ -14,7 +14,7 @@ use Rattle.rewriting.proofs.Basics.{ors, or-both-false, cond-second}
 use Rattle.polynomials.specs.Polynomials.{Weighting}
 use Rattle.polynomials.specs.Values.{Valuation, marked-value}
 use Rattle.polynomials.specs.Limit.{Nodes-within, Side-within}
-use Rattle.polynomials.specs.Judging.{Call, no-call, any, without, is-none, rule-over, rule-rises, call-over, call-rises, call-falls, weightings-refusal, Weighed, all-left, one-more, All-within, Rules-kept, Calls-fall}
+use Rattle.polynomials.specs.Judging.{Call, no-call, any, without, is-none, rule-over, rule-rises, call-over, call-rises, call-falls, weightings-refusal, Weighed, all-left, one-more, Rules-within, Rules-kept}
 use Rattle.polynomials.proofs.Lists.{none-pass, all-leave}
 use Rattle.polynomials.proofs.Small.{Small}
 use Rattle.polynomials.proofs.Compared.{rule-within, rule-kept, call-within, call-kept, call-less}
@@ -111,9 +111,17 @@ exactly false false false a b c =
       refuses-13 = (λ h. absurd (omega arith), λ h. absurd (h .2 (c .0 refl)));
     }
 
+-- the demands of the limit and of falling for calls, by their places
+abbrev pub Calls-within : Weighting → List Call → Type 0
+Calls-within w cs = (k : ℕ) → k < length cs → Side-within w (getD cs k no-call .left) × Side-within w (getD cs k no-call .right)
+
+abbrev pub Calls-fall : Weighting → List Call → Type 0
+Calls-fall w cs =
+    (k : ℕ) → k < length cs → (a : Valuation) → marked-value w a (getD cs k no-call .right) < marked-value w a (getD cs k no-call .left)
+
 -- each test decides its demand
 module _ (rs : List Rule) (w : Weighting) (cs : List Call) where
-  limit-decides : (any (rule-over w) rs || any (call-over w) cs ≡ false) ↔ All-within rs w cs
+  limit-decides : (any (rule-over w) rs || any (call-over w) cs ≡ false) ↔ (Rules-within rs w × Calls-within w cs)
   limit-decides = (to, from)
     where
       rules :
@@ -121,25 +129,16 @@ module _ (rs : List Rule) (w : Weighting) (cs : List Call) where
           ((i : ℕ) → i < length rs → Nodes-within (w .weights) (getD rs i no-rule .left) × Nodes-within (w .weights) (getD rs i no-rule .right))
       rules = none-pass (rule-over w) no-rule rs (λ i k. rule-within w (getD rs i no-rule))
 
-      calls :
-          (any (call-over w) cs ≡ false) ↔
-          ((k : ℕ) → k < length cs → Side-within w (getD cs k no-call .left) × Side-within w (getD cs k no-call .right))
+      calls : (any (call-over w) cs ≡ false) ↔ Calls-within w cs
       calls = none-pass (call-over w) no-call cs (λ k l. call-within w (getD cs k no-call))
 
-      to : any (rule-over w) rs || any (call-over w) cs ≡ false → All-within rs w cs
+      to : any (rule-over w) rs || any (call-over w) cs ≡ false → Rules-within rs w × Calls-within w cs
       to h =
-          let rules-within = rules .0 (search ors) in
-          let calls-within = calls .0 (search ors) in
-          record {
-            rule-lefts = λ i k. rules-within i k .0;
-            rule-rights = λ i k. rules-within i k .1;
-            call-lefts = λ k l. calls-within k l .0;
-            call-rights = λ k l. calls-within k l .1;
-          }
+          let within = rules .0 (search ors) in
+          (record { lefts = λ i k. within i k .0; rights = λ i k. within i k .1 }, calls .0 (search ors))
 
-      from : All-within rs w cs → any (rule-over w) rs || any (call-over w) cs ≡ false
-      from h =
-          or-both-false (rules .1 (λ i k. (h .rule-lefts i k, h .rule-rights i k))) (calls .1 (λ k l. (h .call-lefts k l, h .call-rights k l)))
+      from : Rules-within rs w × Calls-within w cs → any (rule-over w) rs || any (call-over w) cs ≡ false
+      from h = or-both-false (rules .1 (λ i k. (h .0 .lefts i k, h .0 .rights i k))) (calls .1 (h .1))
 
   module _ (small : Small rs cs) where
     rules-decide : (any (rule-rises w) rs ≡ false) ↔ Rules-kept rs w
@@ -147,7 +146,6 @@ module _ (rs : List Rule) (w : Weighting) (cs : List Call) where
     rules-decide = none-pass (rule-rises w) no-rule rs (λ i k. rule-kept w (getD rs i no-rule) (small .rule-lefts i k) (small .rule-rights i k))
 
     calls-decide : (any (call-rises w) cs || not (is-none (without (call-falls w) cs)) ≡ false) ↔ Calls-fall w cs
-    unfolding Calls-fall
     calls-decide =
         (λ h. fall .0 (not-false (is-none (without (call-falls w) cs)) (search ors)), λ h. rw (kept .1 (λ k l a. le-of-lt (h k l a)), fall .1 h))
       where
@@ -159,9 +157,11 @@ module _ (rs : List Rule) (w : Weighting) (cs : List Call) where
         fall : (is-none (without (call-falls w) cs) ≡ true) ↔ Calls-fall w cs
         fall = all-leave (call-falls w) no-call cs (λ k l. call-less w (getD cs k no-call) (small .call-lefts k l) (small .call-rights k l))
 
-    -- with one weighting the numbers mean what document 01 says, exactly
-    pub one-weighting : Exactly (weightings-refusal rs (w ∷ []) cs) (All-within rs w cs) (Rules-kept rs w) (Calls-fall w cs)
+    -- with one weighting the numbers mean what document 01 says, exactly, in whatever words the demands on calls are said
+    pub one-weighting :
+        {A C : Type 0} → (Rules-within rs w × Calls-within w cs) ↔ A → Calls-fall w cs ↔ C →
+        Exactly (weightings-refusal rs (w ∷ []) cs) A (Rules-kept rs w) C
     unfolding weightings-refusal
-    one-weighting =
+    one-weighting a c =
         rw (rises-or-stays (any (call-rises w) cs) (is-none (without (call-falls w) cs)))
-        (exactly _ _ _ limit-decides rules-decide calls-decide)
+        (exactly _ _ _ (Iff·trans limit-decides a) rules-decide (Iff·trans calls-decide c))

@@ -5,14 +5,17 @@ use mathlib.Core.List.{List, [], _∷_}
 use Prim.Native.Nat.{ℕ, _≤_, _<_}
 use lib.ListN.{length, getD}
 use Rattle.rewriting.specs.Terms.{Tree, nil, Rule, no-rule}
-use Rattle.polynomials.specs.Polynomials.{Weight, Weighting, polynomial-of, marked-polynomial, at-least, greater}
-use Rattle.polynomials.specs.Values.{Valuation, value, marked-value}
-use Rattle.polynomials.specs.Limit.{over, marked-over, Nodes-within, Side-within}
+use Rattle.polynomials.specs.Polynomials.{Weighting, polynomial-of, marked-polynomial, at-least, greater}
+use Rattle.polynomials.specs.Values.{Valuation, value}
+use Rattle.polynomials.specs.Limit.{over, marked-over, Nodes-within}
 
 -- the two sides that a pair names
 pub record Call : Type 0 where
   pub left : Tree
   pub right : Tree
+
+abbrev pub no-call : Call
+no-call = record { left = nil; right = nil }
 
 unfoldable pub any : {A : Type 0} → (A → Bool) → List A → Bool
 any test [] = false
@@ -52,30 +55,20 @@ weightings-refusal rs (w ∷ ws) cs =
     (cond (any (rule-rises w) rs) 12
     (cond (any (call-rises w) cs) 13 (weightings-refusal rs ws (without (call-falls w) cs))))
 
--- the same without numbers: every call leaves under one of the weightings
+-- for the proofs, the same without numbers: every call leaves under one of the weightings
 pub data Weighed (rs : List Rule) : List Weighting → List Call → Type 0 where
   all-left : Weighed rs [] []
   one-more :
       (w : Weighting) (ws : List Weighting) (cs : List Call) → any (rule-over w) rs ≡ false → any (call-over w) cs ≡ false →
       any (rule-rises w) rs ≡ false → any (call-rises w) cs ≡ false → Weighed rs ws (without (call-falls w) cs) → Weighed rs (w ∷ ws) cs
 
--- WHAT IT MEANS for one weighting, in values over all naturals; `rs` and `cs` by their places
-abbrev pub no-call : Call
-no-call = record { left = nil; right = nil }
-
--- 11 is not given: every node of all rules and of the calls is within the limit
-pub record All-within (rs : List Rule) (w : Weighting) (cs : List Call) : Type 0 where
-  pub rule-lefts : (i : ℕ) → i < length rs → Nodes-within (w .weights) (getD rs i no-rule .left)
-  pub rule-rights : (i : ℕ) → i < length rs → Nodes-within (w .weights) (getD rs i no-rule .right)
-  pub call-lefts : (k : ℕ) → k < length cs → Side-within w (getD cs k no-call .left)
-  pub call-rights : (k : ℕ) → k < length cs → Side-within w (getD cs k no-call .right)
+-- WHAT IT MEANS for rules, in values over all naturals; Shown has the same of pairs
+-- every node is within the limit
+pub record Rules-within (rs : List Rule) (w : Weighting) : Type 0 where
+  pub lefts : (i : ℕ) → i < length rs → Nodes-within (w .weights) (getD rs i no-rule .left)
+  pub rights : (i : ℕ) → i < length rs → Nodes-within (w .weights) (getD rs i no-rule .right)
 
 -- 12 is not given: every rule's left is at least its right
 unfoldable pub Rules-kept : List Rule → Weighting → Type 0
 Rules-kept rs w =
     (i : ℕ) → i < length rs → (a : Valuation) → value (w .weights) a (getD rs i no-rule .right) ≤ value (w .weights) a (getD rs i no-rule .left)
-
--- 13 is not given: every call's left is greater than its right
-unfoldable pub Calls-fall : Weighting → List Call → Type 0
-Calls-fall w cs =
-    (k : ℕ) → k < length cs → (a : Valuation) → marked-value w a (getD cs k no-call .right) < marked-value w a (getD cs k no-call .left)

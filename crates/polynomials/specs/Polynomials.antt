@@ -1,7 +1,7 @@
 -- The linear polynomial of a term under the weights of an interpretation, and the order of polynomials.
-use mathlib.Core.Bool.{Bool, true, false, _&&_, cond}
+use mathlib.Core.Bool.{Bool, true, _&&_, cond}
 use mathlib.Core.List.{List, [], _∷_, _++_}
-use Prim.Native.Nat.{ℕ, zero, suc, _+_, _*_}
+use Prim.Native.Nat.{ℕ, suc, _+_, _*_}
 use lib.Dec.{ltb, leb, eqb}
 use lib.ListN.{set, replicate}
 use Rattle.rewriting.specs.Terms.{Tree, var, app, nil, cons}

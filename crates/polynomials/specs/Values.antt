@@ -1,6 +1,6 @@
 -- What weights mean: the value of a term over the naturals, from values of its variables.
 use mathlib.Core.List.{List, [], _∷_, _++_}
-use Prim.Native.Nat.{ℕ, zero, suc, _+_, _*_}
+use Prim.Native.Nat.{ℕ, suc, _+_, _*_}
 use Rattle.rewriting.specs.Terms.{Tree, var, app, nil, cons}
 use Rattle.polynomials.specs.Polynomials.{Weight, Weighting, weight, Polynomial}
 

@@ -1,11 +1,8 @@
 -- There are terms, rewrite steps and chains: Division's minus.
 use mathlib.Core.Path.{_≡_, refl}
-use mathlib.Core.Bool.{Bool, true, false}
-use mathlib.Core.List.{List, [], _∷_}
-use Prim.Native.Nat.{ℕ, zero, suc}
+use mathlib.Core.Bool.{true}
 use native.Mathlib.Omega.{arith}
-use lib.ListN.{length}
-use Rattle.rewriting.specs.Terms.{Tree, app, nil, cons, System, rule, is-term, well, width, is-list, Substitution, substituted, Over}
+use Rattle.rewriting.specs.Terms.{Tree, is-term, well, width, is-list, Substitution, Over}
 use Rattle.rewriting.specs.Steps.{full, Step, here, stay}
 use Rattle.rewriting.specs.Chains.{Link, Valid, Next}
 use Rattle.pairs.specs.Listing.{a-pair}

@@ -1,41 +1,40 @@
 -- Every promise is kept: a proof of each statement of specs/Promises.antt, in its order, each from the theorem that it rests on.
 use mathlib.Core.Path.{_≡_, refl, sym, ap, _∙_}
-use mathlib.Core.Bool.{Bool, true, false, _||_, cond}
-use mathlib.Core.List.{List, [], _∷_, _++_}
-use mathlib.Core.Logic.{_⊎_}
-use Prim.Native.Nat.{ℕ, zero, suc, _≤_, _<_}
+use mathlib.Core.Logic.{_↔_}
+use mathlib.Core.List.{List}
+use Prim.Native.Nat.{ℕ, _≤_}
 use native.Mathlib.Omega.{arith}
-use lib.ListN.{length, getD}
+use lib.ListN.{length}
 use Rattle.rewriting.specs.Terms.{System}
 use Rattle.rewriting.specs.Steps.{full}
 use Rattle.rewriting.specs.Chains.{Terminating, Chains-terminating}
 use Rattle.rewriting.specs.Systems.{Good}
-use Rattle.rewriting.proofs.Basics.{each-at, or-left-false, or-right-false, by-test}
+use Rattle.rewriting.proofs.Basics.{each-at}
 use Rattle.rewriting.proofs.Relations.{sn-next, sn-none, no-endless, no-loop}
 use Rattle.rewriting.proofs.Defined.{defined-exactly, left-defines}
 use Rattle.rewriting.proofs.Steps.{step-keeps}
+use Rattle.rewriting.proofs.Contexts.{every-redex, every-context, only-redexes, every-link}
 use Rattle.rewriting.proofs.DependencyPairs.{dependency-pairs}
-use Rattle.records.specs.Outcomes.{Outcome, refused, passed, refusal}
-use Rattle.records.specs.Records.{all-bytes, length-bad}
+use Rattle.records.specs.Outcomes.{passed, refusal}
+use Rattle.records.proofs.Bytes.{bytes-of-records}
 use Rattle.records.proofs.Outcomes.{refusal-within}
-use Rattle.packs.specs.Reading as packs
-use Rattle.packs.specs.Reading.{pack-refusal, pack-in, read-pack}
-use Rattle.packs.specs.Encoding.{Good-pack, pack-bytes}
+use Rattle.packs.specs.PackReading as packs
+use Rattle.packs.specs.PackReading.{pack-refusal, pack-in, read-pack}
 use Rattle.packs.proofs.ReadBack as pack-back
 use Rattle.packs.proofs.OnlyEncodings as pack-only
 use Rattle.packs.proofs.Refusals as pack-refusals
-use Rattle.pairs.specs.Listing.{a-pair}
+use Rattle.pairs.specs.Listing.{a-pair, pair-record}
+use Rattle.pairs.specs.Answers.{listing, buffer-after, list-value}
 use Rattle.pairs.proofs.Listed.{pairs-listed, listing-rises}
 use Rattle.pairs.proofs.Reaching.{arcs-exactly}
 use Rattle.pairs.proofs.ArcsEnough.{arcs-enough}
 use Rattle.pairs.proofs.Ranges.{listing-range, arc-range}
+use Rattle.pairs.proofs.Answering as answering
 use Rattle.polynomials.proofs.Order.{least-means, greater-means}
 use Rattle.polynomials.proofs.Meaning.{polynomial-means, marked-means, sixteen, marked-sixteen}
 use Rattle.polynomials.proofs.LimitMeans.{over-means, marked-over-means}
 use Rattle.certificates.specs.Components.{Component, no-component}
-use Rattle.certificates.specs.Reading as certificates
-use Rattle.certificates.specs.Reading.{read-certificate}
-use Rattle.certificates.specs.Encoding.{Good-certificate, certificate-bytes}
+use Rattle.certificates.specs.CertificateReading.{read-certificate}
 use Rattle.certificates.proofs.ReadBack as certificate-back
 use Rattle.certificates.proofs.OnlyEncodings as certificate-only
 use Rattle.certificates.proofs.Refusals as certificate-refusals
@@ -44,11 +43,13 @@ use Rattle.judging.specs.Check.{check}
 use Rattle.judging.specs.Shown.{nth, nth-pair}
 use Rattle.judging.proofs.Components.{All-fit}
 use Rattle.judging.proofs.Shows.{judged-8, judged-9, judged-0, judged-10-to-13}
-use Rattle.judging.proofs.Checking.{check-cut, check-of-read, pack-first, then-certificate, check-range, cut-exactly, accepted}
+use Rattle.judging.proofs.Checking.{check-cut, check-of-read, pack-first, then-certificate, check-range, cut-exactly, judged-as}
 use Rattle.judging.proofs.Plain.{judged-plain-terminates}
 use Rattle.promises.specs.Promises
-use Rattle.promises.proofs.Starred.{starred-cases}
+use Rattle.promises.proofs.Refusing.{pack-cut, only-cut, pack-refuses, failing-refused, certificate-cut, only-certificate-cut, certificate-refuses, failing-certificate, pack-given, certificate-given, either-refuses, either-given, only-pack, only-certificate}
+use Rattle.promises.proofs.Starred.{starred-cases, other-numbers, list-short, list-fills, division-arcs, division-sizes, division-pairs}
 use Rattle.promises.proofs.Loop.{loop-checked}
+use Rattle.promises.proofs.Largest.{largest-read, largest-long, longest-read, longest-long, dense-read, dense-long, brink-accepted, brink-heavy}
 use Rattle.promises.proofs.Concrete.{minus-term, minus-step, first-valid, minus-follows}
 
 -- THE THIRD DEMAND
@@ -66,9 +67,9 @@ is-pack-in bs p e = ap packs.system-of e
 
 all-terminate : (bs ds : List ℕ) → check bs ds ≡ 0 → Chains-terminating (pack-in bs) full × Terminating (pack-in bs) full
 all-terminate bs ds h =
-    let a = accepted bs ds h in
+    let a = judged-as bs ds 0 (λ l. absurd (omega arith)) h in
     let p = a .system in
-    rw (is-pack-in bs p (a .pack-read)) (judged-plain-terminates p full (pack-only.pack-good bs p (a .pack-read) .good) (a .components) (a .holds))
+    rw (is-pack-in bs p (a .pack-read)) (judged-plain-terminates p full (pack-only.pack-good bs p (a .pack-read) .good) (a .components) (a .number))
 
 pub accepted-terminates : Promises.Accepted-terminates
 unfolding Promises.Accepted-terminates
@@ -95,6 +96,22 @@ pub steps-keep : Promises.Steps-keep
 unfolding Promises.Steps-keep
 steps-keep bs t u h w r = step-keeps (pack-in bs) full (good bs h) w r
 
+pub every-redex-kept : Promises.Every-redex
+unfolding Promises.Every-redex
+every-redex-kept p i s h o = every-redex p i s h o
+
+pub every-context-kept : Promises.Every-context
+unfolding Promises.Every-context
+every-context-kept p c t u x = every-context p c t u x
+
+pub only-redexes-kept : Promises.Only-redexes
+unfolding Promises.Only-redexes
+only-redexes-kept bs t u h w x = only-redexes (pack-in bs) (good bs h) t u w x
+
+pub every-link-kept : Promises.Every-link
+unfolding Promises.Every-link
+every-link-kept p q s h o = every-link p q s h o
+
 -- THE FIRST DEMAND
 pub check-range-kept : Promises.Check-range
 unfolding Promises.Check-range
@@ -109,6 +126,14 @@ unfolding Promises.Arc-range
 arc-range-kept bs q r = arc-range (λ bs. refusal-within (pack-refusals.read-range bs)) bs q r
 
 -- THE SECOND DEMAND
+pub records-back : Promises.Records-back
+unfolding Promises.Records-back
+records-back bs b e = bytes-of-records bs b e
+
+pub pack-is-read : Promises.Pack-is-read
+unfolding Promises.Pack-is-read pack-refusal
+pack-is-read bs p = (λ e. (ap refusal e, is-pack-in bs p e), λ h. pack-refusals.pack-passes bs (h .0) ∙ ap passed (h .1))
+
 pub packs-back : Promises.Packs-back
 unfolding Promises.Packs-back
 packs-back p g = pack-back.read-back p g
@@ -116,6 +141,14 @@ packs-back p g = pack-back.read-back p g
 pub packs-only : Promises.Packs-only
 unfolding Promises.Packs-only
 packs-only bs p b e = pack-only.only-encodings bs p b e
+
+pub certificates-back : Promises.Certificates-back
+unfolding Promises.Certificates-back
+certificates-back p cs g h l = certificate-back.read-back p cs g h l
+
+pub certificates-only : Promises.Certificates-only
+unfolding Promises.Certificates-only
+certificates-only p ds cs b e = certificate-only.only-encodings p ds cs b e
 
 -- components that were read fit what the judgement asks
 fit : (p : System) (ds : List ℕ) (cs : List Component) → read-certificate p ds ≡ passed cs → All-fit p cs
@@ -130,7 +163,7 @@ accepted-exactly bs ds b d = (λ h. certified h, λ c. accepts c)
   where
     certified : check bs ds ≡ 0 → Promises.Certified bs ds
     certified h =
-        let a = accepted bs ds h in
+        let a = judged-as bs ds 0 (λ l. absurd (omega arith)) h in
         let p = a .system in
         let k = pack-only.only-encodings bs p b (a .pack-read) in
         let l = certificate-only.only-encodings p ds (a .components) d (a .certificate-read) in
@@ -142,7 +175,7 @@ accepted-exactly bs ds b d = (λ h. certified h, λ c. accepts c)
           good-certificate = l .1;
           length-within = l .2;
           certificate-is = l .0;
-          shows = judged-0 p (a .components) (k .1 .good) (fit p ds (a .components) (a .certificate-read)) .0 (a .holds);
+          shows = judged-0 p (a .components) (k .1 .good) (fit p ds (a .components) (a .certificate-read)) .0 (a .number);
         }
 
     accepts : Promises.Certified bs ds → check bs ds ≡ 0
@@ -158,6 +191,46 @@ accepted-exactly bs ds b d = (λ h. certified h, λ c. accepts c)
 pub refused-1 : Promises.Refused-1
 unfolding Promises.Refused-1
 refused-1 bs ds = (cut-exactly bs ds, check-cut bs ds)
+
+pub pack-refused-1 : Promises.Pack-refused-1
+unfolding Promises.Pack-refused-1
+pack-refused-1 bs = (only-cut bs, pack-cut bs)
+
+pub pack-refused-2-to-6 : Promises.Pack-refused-2-to-6
+unfolding Promises.Pack-refused-2-to-6
+pack-refused-2-to-6 bs n w = (pack-refuses bs n w, failing-refused bs n w)
+
+pub certificate-refused-1 : Promises.Certificate-refused-1
+unfolding Promises.Certificate-refused-1
+certificate-refused-1 p ds = (only-certificate-cut p ds, certificate-cut p ds)
+
+pub certificate-refused-2-to-7 : Promises.Certificate-refused-2-to-7
+unfolding Promises.Certificate-refused-2-to-7
+certificate-refused-2-to-7 p ds n b w = (certificate-refuses p ds n w b, failing-certificate p ds n w)
+
+pub refused-2 : Promises.Refused-2
+unfolding Promises.Refused-2 Promises.Given-exactly
+refused-2 bs ds b w = (either-refuses bs ds b w 2 (omega arith) (omega arith), either-given bs ds b w 2)
+
+pub refused-3 : Promises.Refused-3
+unfolding Promises.Refused-3 Promises.Given-exactly
+refused-3 bs ds b w = (either-refuses bs ds b w 3 (omega arith) (omega arith), either-given bs ds b w 3)
+
+pub refused-4 : Promises.Refused-4
+unfolding Promises.Refused-4 Promises.Given-exactly
+refused-4 bs ds b w = (only-pack bs ds b w 4 (omega arith) (omega arith), pack-given bs ds b w 4)
+
+pub refused-5 : Promises.Refused-5
+unfolding Promises.Refused-5 Promises.Given-exactly
+refused-5 bs ds b w = (only-pack bs ds b w 5 (omega arith) (omega arith), pack-given bs ds b w 5)
+
+pub refused-6 : Promises.Refused-6
+unfolding Promises.Refused-6 Promises.Given-exactly
+refused-6 bs ds b w = (only-pack bs ds b w 6 (omega arith) (omega arith), pack-given bs ds b w 6)
+
+pub refused-7 : Promises.Refused-7
+unfolding Promises.Refused-7 Promises.Given-exactly
+refused-7 bs ds b w = (only-certificate bs ds b w 7 refl, certificate-given bs ds b w 7)
 
 pub pack-first-kept : Promises.Pack-first
 unfolding Promises.Pack-first
@@ -175,28 +248,60 @@ pub certificate-refusals-stay : Promises.Certificate-refusals-stay
 unfolding Promises.Certificate-refusals-stay
 certificate-refusals-stay p rs more x n e = certificate-refusals.refusal-stands p rs more x n e
 
-module _ (bs ds : List ℕ) (p : System) (cs : List Component) (r : Promises.Read bs ds p cs) where
-  is-judged : check bs ds ≡ judged p (plain p) cs
-  is-judged = check-of-read bs ds p cs (r .pack-read) (r .certificate-read)
+-- of two files that were read, where the judgement's number n says just what Fails does
+module _ (n : ℕ) (other : 1 ≤ n → 8 ≤ n) (Fails : System → List Component → Type 0) where
+  abbrev Means : System → List Component → Type 0
+  Means p cs = Good p → All-fit p cs → (judged p (plain p) cs ≡ n) ↔ Fails p cs
 
-  read-good : Good p
-  read-good = pack-only.pack-good bs p (r .pack-read) .good
+  judged-exactly : ((p : System) (cs : List Component) → Means p cs) → Promises.Judged-exactly n Fails
+  unfolding Promises.Judged-exactly
+  judged-exactly means bs ds = (to, from)
+    where
+      here : (p : System) (cs : List Component) → read-pack bs ≡ passed p → read-certificate p ds ≡ passed cs → (judged p (plain p) cs ≡ n) ↔ Fails p cs
+      here p cs e f = means p cs (pack-only.pack-good bs p e .good) (fit p ds cs f)
 
-  read-fit : All-fit p cs
-  read-fit = fit p ds cs (r .certificate-read)
+      to : check bs ds ≡ n → Promises.Read-and Fails bs ds
+      to h =
+          let a = judged-as bs ds n other h in
+          record {
+            system = a .system;
+            components = a .components;
+            pack-read = a .pack-read;
+            certificate-read = a .certificate-read;
+            fails = here (a .system) (a .components) (a .pack-read) (a .certificate-read) .0 (a .number);
+          }
+
+      from : Promises.Read-and Fails bs ds → check bs ds ≡ n
+      from r =
+          check-of-read bs ds (r .system) (r .components) (r .pack-read) (r .certificate-read)
+          ∙ here (r .system) (r .components) (r .pack-read) (r .certificate-read) .1 (r .fails)
+
+component-exactly : (n : ℕ) → 10 ≤ n → Promises.Judged-exactly n (Promises.Component-fails n)
+component-exactly n h = judged-exactly n (λ _. omega arith) (Promises.Component-fails n) (λ p cs g f. judged-10-to-13 p cs g f n h)
 
 pub refused-8 : Promises.Refused-8
 unfolding Promises.Refused-8
-refused-8 bs ds p cs r = rw (is-judged bs ds p cs r) (judged-8 p cs)
+refused-8 = judged-exactly 8 (λ _. omega arith) _ (λ p cs g f. judged-8 p cs)
 
 pub refused-9 : Promises.Refused-9
 unfolding Promises.Refused-9
-refused-9 bs ds p cs r = rw (is-judged bs ds p cs r) (judged-9 p cs)
+refused-9 = judged-exactly 9 (λ _. omega arith) _ (λ p cs g f. judged-9 p cs)
 
-pub refused-10-to-13 : Promises.Refused-10-to-13
-unfolding Promises.Refused-10-to-13
-refused-10-to-13 bs ds p cs n r h =
-    rw (is-judged bs ds p cs r) (judged-10-to-13 p cs (read-good bs ds p cs r) (read-fit bs ds p cs r) n h)
+pub refused-10 : Promises.Refused-10
+unfolding Promises.Refused-10
+refused-10 = component-exactly 10 (omega arith)
+
+pub refused-11 : Promises.Refused-11
+unfolding Promises.Refused-11
+refused-11 = component-exactly 11 (omega arith)
+
+pub refused-12 : Promises.Refused-12
+unfolding Promises.Refused-12
+refused-12 = component-exactly 12 (omega arith)
+
+pub refused-13 : Promises.Refused-13
+unfolding Promises.Refused-13
+refused-13 = component-exactly 13 (omega arith)
 
 pub packs-obey : Promises.Packs-obey
 unfolding Promises.Packs-obey
@@ -213,6 +318,43 @@ pairs-listed-kept p q = pairs-listed p q
 pub listing-rises-kept : Promises.Listing-rises
 unfolding Promises.Listing-rises
 listing-rises-kept p = listing-rises p
+
+pub listing-first-kept : Promises.Listing-first
+unfolding Promises.Listing-first
+listing-first-kept bs room n = (answering.listing-only bs room n, answering.listing-first bs room n)
+
+pub refused-14 : Promises.Refused-14
+unfolding Promises.Refused-14
+refused-14 bs room = (answering.too-short bs room, λ h. answering.short-refused bs room (h .0) (h .1))
+
+pub listing-passes : Promises.Listing-passes
+unfolding Promises.Listing-passes
+listing-passes bs room qs =
+    (answering.listing-given bs room qs, λ h. answering.listing-passes bs room (h .0) (h .1) ∙ ap passed (sym (h .2)))
+
+pub refused-leaves : Promises.Refused-leaves
+unfolding Promises.Refused-leaves
+refused-leaves bs o n e = answering.refused-leaves (listing bs (length o)) o n e
+
+pub passed-fills : Promises.Passed-fills
+unfolding Promises.Passed-fills list-value buffer-after pair-record
+passed-fills bs o qs e =
+    let p = answering.listing-passed bs (length o) qs e in
+    rw e
+    (refl, record { length-kept = answering.filled-long qs o (p .1); records = answering.filled-records qs o (p .0); others = answering.filled-others qs o })
+
+pub arc-first-kept : Promises.Arc-first
+unfolding Promises.Arc-first
+arc-first-kept bs q r n = (answering.arc-only bs q r n, answering.arc-first bs q r n)
+
+pub arc-refused-7 : Promises.Arc-refused-7
+unfolding Promises.Arc-refused-7
+arc-refused-7 bs q r = (answering.no-pairs bs q r, λ h. answering.no-pairs-refused bs q r (h .0) (h .1))
+
+pub arc-passes : Promises.Arc-passes
+unfolding Promises.Arc-passes
+arc-passes bs q r b =
+    (answering.arc-given bs q r b, λ h. answering.arc-passes bs q r (h .0) (h .1) ∙ ap passed (sym (h .2)))
 
 pub defined-exactly-kept : Promises.Defined-exactly
 unfolding Promises.Defined-exactly
@@ -250,10 +392,43 @@ pub limit-means : Promises.Limit-means
 unfolding Promises.Limit-means
 limit-means = (over-means, marked-over-means)
 
+-- THE LIMITS
+pub pack-limits : Promises.Pack-limits
+unfolding Promises.Pack-limits
+pack-limits = (pack-refusals.pack-too-long, largest-read, largest-long)
+
+pub certificate-limits : Promises.Certificate-limits
+unfolding Promises.Certificate-limits
+certificate-limits = (certificate-refusals.certificate-too-long, longest-read, longest-long)
+
+pub pairs-limit : Promises.Pairs-limit
+unfolding Promises.Pairs-limit
+pairs-limit = (dense-read, dense-long)
+
+pub forms-limit : Promises.Forms-limit
+unfolding Promises.Forms-limit
+forms-limit = (brink-accepted, brink-heavy)
+
 -- NOT VACUOUS
 pub starred-cases-kept : Promises.Starred-cases
 unfolding Promises.Starred-cases
 starred-cases-kept = starred-cases
+
+pub other-numbers-kept : Promises.Other-numbers
+unfolding Promises.Other-numbers
+other-numbers-kept = other-numbers
+
+pub short-list : Promises.Short-list
+unfolding Promises.Short-list
+short-list = (list-short, list-fills)
+
+pub concrete-arcs : Promises.Concrete-arcs
+unfolding Promises.Concrete-arcs
+concrete-arcs = division-arcs
+
+pub division-sizes-kept : Promises.Division-sizes
+unfolding Promises.Division-sizes
+division-sizes-kept = (division-sizes .0, division-sizes .1, division-pairs)
 
 pub loop-refused : Promises.Loop-refused
 unfolding Promises.Loop-refused
@@ -265,4 +440,4 @@ concrete-step = (minus-term, minus-step)
 
 pub concrete-chain : Promises.Concrete-chain
 unfolding Promises.Concrete-chain
-concrete-chain = (_, _, first-valid, minus-follows)
+concrete-chain = (_, _, refl, refl, first-valid, minus-follows)

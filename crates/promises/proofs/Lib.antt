@@ -3,4 +3,6 @@ pub mod Computed
 pub mod Starred
 pub mod Loop
 pub mod Concrete
+pub mod Largest
+pub mod Refusing
 pub mod Kept

@@ -1,21 +1,20 @@
 -- a → a is refused with 13 under every single weighting, whatever its weights.
-use mathlib.Core.Path.{_≡_, refl, sym, ap, _∙_}
-use mathlib.Core.Bool.{Bool, true, false, _&&_, _||_, not, cond}
+use mathlib.Core.Path.{_≡_, refl, _∙_}
+use mathlib.Core.Bool.{true, _&&_}
 use mathlib.Core.List.{List, [], _∷_}
 use Prim.Native.Nat.{ℕ, suc, _≤_, _<_}
 use native.Mathlib.Nat.{le-refl}
 use native.Mathlib.Omega.{arith}
-use lib.Dec.{ltb, leb, eqb}
+use lib.Dec.{eqb}
 use lib.ListN.{length, getD}
 use borrow.Author.Tests.{le-ltb, le-leb}
-use Rattle.rewriting.specs.Terms.{System}
 use Rattle.rewriting.proofs.Basics.{by-test}
 use Rattle.records.specs.Outcomes.{passed}
 use Rattle.records.specs.Records.{all-bytes}
 use Rattle.packs.specs.Encoding.{pack-bytes}
 use Rattle.polynomials.specs.Polynomials.{Weight, Weighting, weight}
 use Rattle.polynomials.specs.Limit.{limit}
-use Rattle.certificates.specs.Reading.{read-certificate}
+use Rattle.certificates.specs.CertificateReading.{read-certificate}
 use Rattle.certificates.specs.Encoding.{no-weight, Good-certificate}
 use Rattle.certificates.proofs.OnlyEncodings.{only-encodings}
 use Rattle.judging.specs.Judge.{judged, plain}

@@ -1,14 +1,17 @@
--- The starred cases of document 01: the check gives each the paper's number, from the bytes of both files.
+-- The starred cases of document 01: the check gives each the paper's number, from the bytes of both files; and so for every other number.
 use mathlib.Core.Path.{_≡_, refl}
-use mathlib.Core.List.{List, [], _∷_, map}
+use mathlib.Core.Bool.{true, false}
+use mathlib.Core.List.{[], _∷_, map}
 use Prim.Native.Nat.{ℕ}
 use lib.ListN.{length}
+use Rattle.records.specs.Outcomes.{refused, passed}
 use Rattle.pairs.specs.Listing.{a-pair, pairs}
+use Rattle.pairs.specs.Answers.{listing, arc-question}
 use Rattle.packs.specs.Encoding.{pack-bytes}
 use Rattle.certificates.specs.Encoding.{certificate-bytes}
 use Rattle.judging.specs.Check.{check}
 use Rattle.promises.proofs.Computed.{computed}
-use Rattle.promises.specs.Examples.{Case, starred, division, division-shown, shrinking, shrinking-pairs}
+use Rattle.promises.specs.Examples.{Case, starred, Files, others, division, division-shown, shrinking, shrinking-pairs}
 
 abbrev number-given : Case → ℕ
 number-given c = check (pack-bytes (c .pack)) (certificate-bytes (c .certificate))
@@ -19,6 +22,33 @@ number-due c = c .number
 pub starred-cases : map number-given starred ≡ map number-due starred
 unfolding computed
 starred-cases = refl
+
+-- the numbers that none of them has
+abbrev number-of-files : Files → ℕ
+number-of-files f = check (f .pack) (f .certificate)
+
+abbrev due-of-files : Files → ℕ
+due-of-files f = f .number
+
+pub other-numbers : map number-of-files others ≡ map due-of-files others
+unfolding computed others
+other-numbers = refl
+
+pub list-short : listing (pack-bytes division) 23 ≡ refused 14
+unfolding computed listing
+list-short = refl
+
+pub list-fills : listing (pack-bytes division) 24 ≡ passed (pairs division)
+unfolding computed listing
+list-fills = refl
+
+-- an arc, none, and no pair
+pub division-arcs :
+    (arc-question (pack-bytes division) (a-pair 1 0) (a-pair 1 0) ≡ passed true)
+    × (arc-question (pack-bytes division) (a-pair 1 0) (a-pair 3 1) ≡ passed false)
+    × (arc-question (pack-bytes division) (a-pair 1 0) (a-pair 0 0) ≡ refused 7)
+unfolding computed arc-question
+division-arcs = (refl, refl, refl)
 
 -- the sizes that document 01 gives of Division's files, and its listing
 pub division-sizes : (length (pack-bytes division) ≡ 296) × (length (certificate-bytes division-shown) ≡ 128)

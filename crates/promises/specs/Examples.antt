@@ -3,6 +3,10 @@ use mathlib.Core.List.{List, [], _∷_}
 use Prim.Native.Nat.{ℕ}
 use Rattle.rewriting.specs.Terms.{Tree, var, app, nil, cons, Rule, System}
 use Rattle.rewriting.specs.Pairs.{Pair}
+use Rattle.records.specs.declared.Record.{Record}
+use Rattle.records.specs.Records.{a-record, all-record-bytes}
+use Rattle.records.specs.Order.{S-symbol, R-rule, F-application, V-variable, C-component, P-pair}
+use Rattle.packs.specs.Encoding.{pack-bytes}
 use Rattle.pairs.specs.Listing.{a-pair}
 use Rattle.polynomials.specs.Polynomials.{Weight, Weighting}
 use Rattle.certificates.specs.Components.{Component}
@@ -27,8 +31,8 @@ infix 30 _⟶_
 abbrev pub system : (arities : List ℕ) → List Rule → System
 system ar rs = record { arities = ar; rules = rs }
 
-abbrev pub weighs : (symbol place value : ℕ) → Weight
-weighs f i n = record { symbol = f; place = i; value = n }
+abbrev pub a-weight : (symbol place value : ℕ) → Weight
+a-weight f i n = record { symbol = f; place = i; value = n }
 
 abbrev pub weighted : List Pair → (weights marked : List Weight) → Component
 weighted qs ws ms = record { pairs = qs; weightings = record { weights = ws; marked = ms } ∷ [] }
@@ -48,21 +52,21 @@ division =
 
 -- s is 1 + its argument, minus and quot their first argument
 abbrev division-weights : List Weight
-division-weights = weighs 1 0 1 ∷ weighs 1 1 1 ∷ weighs 2 1 1 ∷ weighs 3 1 1 ∷ []
+division-weights = a-weight 1 0 1 ∷ a-weight 1 1 1 ∷ a-weight 2 1 1 ∷ a-weight 3 1 1 ∷ []
 
 unfoldable pub division-shown : List Component
 division-shown =
-    weighted (a-pair 3 1 ∷ []) division-weights (weighs 3 1 1 ∷ [])
+    weighted (a-pair 3 1 ∷ []) division-weights (a-weight 3 1 1 ∷ [])
     ∷ unweighted (a-pair 3 2)
-    ∷ weighted (a-pair 1 0 ∷ []) division-weights (weighs 2 1 1 ∷ [])
+    ∷ weighted (a-pair 1 0 ∷ []) division-weights (a-weight 2 1 1 ∷ [])
     ∷ []
 
 -- the same without quot's weight in component 2
 unfoldable pub division-less : List Component
 division-less =
-    weighted (a-pair 3 1 ∷ []) division-weights (weighs 3 1 1 ∷ [])
+    weighted (a-pair 3 1 ∷ []) division-weights (a-weight 3 1 1 ∷ [])
     ∷ unweighted (a-pair 3 2)
-    ∷ weighted (a-pair 1 0 ∷ []) (weighs 1 0 1 ∷ weighs 1 1 1 ∷ weighs 2 1 1 ∷ []) (weighs 2 1 1 ∷ [])
+    ∷ weighted (a-pair 1 0 ∷ []) (a-weight 1 0 1 ∷ a-weight 1 1 1 ∷ a-weight 2 1 1 ∷ []) (a-weight 2 1 1 ∷ [])
     ∷ []
 
 unfoldable pub nothing : System
@@ -73,7 +77,7 @@ unfoldable pub nested : System
 nested = system (1 ∷ 1 ∷ []) ((app₁ 0 (app₁ 0 (var 0)) ⟶ app₁ 0 (app₁ 1 (app₁ 0 (var 0)))) ∷ [])
 
 abbrev nested-first : Component
-nested-first = weighted (a-pair 0 2 ∷ []) (weighs 0 0 1 ∷ weighs 0 1 1 ∷ weighs 1 1 1 ∷ []) (weighs 0 1 1 ∷ [])
+nested-first = weighted (a-pair 0 2 ∷ []) (a-weight 0 0 1 ∷ a-weight 0 1 1 ∷ a-weight 1 1 1 ∷ []) (a-weight 0 1 1 ∷ [])
 
 unfoldable pub nested-shown : List Component
 nested-shown = nested-first ∷ unweighted (a-pair 0 0) ∷ []
@@ -99,7 +103,7 @@ swapping =
     ((app₃ 0 (app₁ 1 (var 0)) (var 1) (var 1) ⟶ app₃ 0 (var 1) (var 0) (app₁ 1 (var 0))) ∷ [])
 
 unfoldable pub swapping-shown : List Component
-swapping-shown = weighted (a-pair 0 0 ∷ []) (weighs 1 0 1 ∷ weighs 1 1 1 ∷ []) (weighs 0 1 1 ∷ weighs 0 2 1 ∷ []) ∷ []
+swapping-shown = weighted (a-pair 0 0 ∷ []) (a-weight 1 0 1 ∷ a-weight 1 1 1 ∷ []) (a-weight 0 1 1 ∷ a-weight 0 2 1 ∷ []) ∷ []
 
 -- a → a
 unfoldable pub loop : System
@@ -126,9 +130,9 @@ unfoldable pub thrice : System
 thrice = system (1 ∷ 1 ∷ []) ((app₁ 0 (app₁ 1 (app₁ 1 (app₁ 1 (var 0)))) ⟶ app₁ 0 (var 0)) ∷ [])
 
 unfoldable pub heavy-s : List Component
-heavy-s = weighted (a-pair 0 0 ∷ []) (weighs 1 0 1 ∷ weighs 1 1 65535 ∷ []) (weighs 0 1 1 ∷ []) ∷ []
+heavy-s = weighted (a-pair 0 0 ∷ []) (a-weight 1 0 1 ∷ a-weight 1 1 65535 ∷ []) (a-weight 0 1 1 ∷ []) ∷ []
 
--- THE STARRED CASES: pack, certificate, and the paper's number, 0 being accepted
+-- THE STARRED CASES but one, a → a under any weighting: pack, certificate, and the paper's number, 0 being accepted
 pub record Case : Type 0 where
   pub pack : System
   pub certificate : List Component
@@ -150,4 +154,39 @@ starred =
     ∷ gives loop loop-unweighted 10
     ∷ gives twice heavy-s 0
     ∷ gives thrice heavy-s 11
+    ∷ []
+
+-- A PAIR OF FILES for each number that none of these has
+pub record Files : Type 0 where
+  pub pack : List ℕ
+  pub certificate : List ℕ
+  pub number : ℕ
+
+abbrev bytes : List Record → List ℕ
+bytes rs = all-record-bytes rs
+
+-- a pack of these records, with an empty certificate
+abbrev pack-gives : List Record → ℕ → Files
+pack-gives rs n = record { pack = bytes rs; certificate = []; number = n }
+
+-- a → a with a certificate of these records
+abbrev loop-gives : List Record → ℕ → Files
+loop-gives rs n = record { pack = pack-bytes loop; certificate = bytes rs; number = n }
+
+-- a symbol 0 of arity n, and a rule 0 of one node a side
+abbrev one-rule : ℕ → List Record → List Record
+one-rule n rs = a-record S-symbol 0 n 0 ∷ a-record R-rule 0 1 1 ∷ rs
+
+unfoldable pub others : List Files
+others =
+    record { pack = 0 ∷ []; certificate = []; number = 1 }
+    ∷ pack-gives (a-record R-rule 0 1 1 ∷ []) 2
+    ∷ pack-gives (a-record S-symbol 0 9 0 ∷ []) 3
+    ∷ pack-gives (one-rule 1 (a-record F-application 0 0 0 ∷ a-record V-variable 0 0 0 ∷ [])) 4
+    ∷ pack-gives (one-rule 0 (a-record V-variable 0 0 0 ∷ a-record V-variable 0 0 0 ∷ [])) 5
+    ∷ pack-gives (one-rule 0 (a-record F-application 0 0 0 ∷ a-record V-variable 0 0 0 ∷ [])) 6
+    ∷ loop-gives (a-record C-component 1 0 1 ∷ []) 2
+    ∷ loop-gives (a-record C-component 0 2 1 ∷ []) 3
+    ∷ loop-gives (a-record C-component 0 0 1 ∷ a-record P-pair 0 1 0 ∷ []) 7
+    ∷ loop-gives (a-record C-component 0 1 1 ∷ a-record P-pair 0 0 0 ∷ []) 13
     ∷ []

@@ -1,3 +1,4 @@
 -- What is promised, and document 01's starred cases.
 pub mod Examples
+pub mod Limits
 pub mod Promises

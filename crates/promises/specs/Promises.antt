@@ -4,35 +4,39 @@ use mathlib.Core.Path.{_≡_}
 use mathlib.Core.Bool.{Bool, true, false, _&&_, _||_}
 use mathlib.Core.List.{List, [], _∷_, _++_, map}
 use mathlib.Core.Logic.{_⊎_}
-use Prim.Native.Nat.{ℕ, zero, suc, _≤_, _<_}
-use lib.ListN.{length}
-use Rattle.rewriting.specs.Terms.{Tree, System, rule, is-list, is-term}
+use Prim.Native.Nat.{ℕ, suc, _*_, _%_, _≤_, _<_}
+use lib.ListN.{length, getD}
+use Rattle.rewriting.specs.Terms.{Tree, System, rule, is-list, is-term, Substitution, substituted, Over}
 use Rattle.rewriting.specs.Steps.{full, Step}
+use Rattle.rewriting.specs.Contexts.{Context, plugged, Contracts}
 use Rattle.rewriting.specs.Termination.{SN}
 use Rattle.rewriting.specs.Pairs.{Pair, is-pair, pair-left, pair-right, same-root, has-root, arguments, defined}
 use Rattle.rewriting.specs.Chains.{Link, Valid, Next, Terminating, Chains-terminating}
 use Rattle.rewriting.specs.Systems.{variables-below}
 use Rattle.records.specs.declared.Record.{Record}
-use Rattle.records.specs.Outcomes.{Outcome, refused, passed, refusal}
-use Rattle.records.specs.Records.{all-bytes, all-records, length-bad}
-use Rattle.records.specs.Order.{pack-edge, certificate-edge, obeys}
+use Rattle.records.specs.Outcomes.{refused, passed, refusal}
+use Rattle.records.specs.Records.{record-at, a-record, all-bytes, all-records, all-record-bytes, length-bad}
+use Rattle.records.specs.Order.{P-pair, pack-edge, certificate-edge, obeys}
 use Rattle.records.specs.Rising.{rising}
-use Rattle.packs.specs.Reading as packs
-use Rattle.packs.specs.Reading.{pack-refusal, pack-in, read-pack, pack-from, pack-steps}
+use Rattle.packs.specs.PackReading as packs
+use Rattle.packs.specs.PackReading.{pack-refusal, pack-in, read-pack, pack-from, pack-steps}
 use Rattle.packs.specs.Encoding.{pack-bytes, Good-pack}
-use Rattle.pairs.specs.Listing.{pairs, count-pair}
-use Rattle.pairs.specs.Arcs.{may-reach, arc, Reaches}
-use Rattle.pairs.specs.Answers.{listing, arc-question}
-use Rattle.polynomials.specs.Polynomials.{Polynomial, Weight, Weighting, weight, polynomial-of, marked-polynomial, at-least, greater}
+use Rattle.packs.specs.PackFailures.{Pack-fails}
+use Rattle.pairs.specs.Listing.{a-pair, pairs, count-pair}
+use Rattle.pairs.specs.Arcs.{arc, Reaches}
+use Rattle.pairs.specs.Answers.{listing, buffer-after, list-value, arc-question}
+use Rattle.polynomials.specs.Polynomials.{Polynomial, Weight, Weighting, polynomial-of, marked-polynomial, at-least, greater}
 use Rattle.polynomials.specs.Values.{Valuation, term-values, marked-value, value-of}
 use Rattle.polynomials.specs.Limit.{over, marked-over, Nodes-within, Side-within}
 use Rattle.certificates.specs.Components.{Component}
-use Rattle.certificates.specs.Reading as certificates
-use Rattle.certificates.specs.Reading.{read-certificate, cert-from, cert-steps}
+use Rattle.certificates.specs.CertificateReading as certificates
+use Rattle.certificates.specs.CertificateReading.{read-certificate, cert-from, cert-steps}
 use Rattle.certificates.specs.Encoding.{certificate-bytes, Good-certificate}
+use Rattle.certificates.specs.CertificateFailures.{Certificate-fails}
 use Rattle.judging.specs.Check.{check}
 use Rattle.judging.specs.Shown.{Each-once, No-back-arc, First-failure, Shows}
-use Rattle.promises.specs.Examples.{Case, starred, division, loop, loop-under, constant, app₂}
+use Rattle.promises.specs.Limits.{largest-pack, longest-certificate, dense-pack, dense-certificate, brink, brink-with}
+use Rattle.promises.specs.Examples.{starred, others, division, division-shown, loop, loop-under, constant, app₂}
 
 -- THE THIRD DEMAND
 -- For every pack that passes 1 to 6, all derivations from all terms end exactly when all chains of its pairs end.
@@ -68,6 +72,25 @@ Steps-keep =
     (bs : List ℕ) (t u : Tree) → pack-refusal bs ≡ 0 → is-term (pack-in bs) t ≡ true → Step (pack-in bs) full t u →
     is-term (pack-in bs) u ≡ true
 
+-- A step takes one place where any rule's left side stands under any substitution, in any context.
+unfoldable pub Every-redex : Type 0
+Every-redex =
+    (p : System) (i : ℕ) (s : Substitution) → i < length (p .rules) → Over p s →
+    Step p full (substituted s (rule p i .left)) (substituted s (rule p i .right))
+
+unfoldable pub Every-context : Type 0
+Every-context = (p : System) (c : Context) (t u : Tree) → Step p full t u → Step p full (plugged c t) (plugged c u)
+
+-- And that is all a step does.
+unfoldable pub Only-redexes : Type 0
+Only-redexes =
+    (bs : List ℕ) (t u : Tree) → pack-refusal bs ≡ 0 → is-term (pack-in bs) t ≡ true → Step (pack-in bs) full t u → Contracts (pack-in bs) t u
+
+-- Any pair under any substitution may stand in a chain.
+unfoldable pub Every-link : Type 0
+Every-link =
+    (p : System) (q : Pair) (s : Substitution) → is-pair p q ≡ true → Over p s → Valid p full (record { pair = q; by = s })
+
 -- THE FIRST DEMAND: every answer is one number of the table
 unfoldable pub Check-range : Type 0
 Check-range = (bs ds : List ℕ) → check bs ds ≤ 13
@@ -78,7 +101,18 @@ Listing-range = (bs : List ℕ) (room : ℕ) → (refusal (listing bs room) ≤ 
 unfoldable pub Arc-range : Type 0
 Arc-range = (bs : List ℕ) (q r : Pair) → refusal (arc-question bs q r) ≤ 7
 
--- THE SECOND DEMAND
+-- THE SECOND DEMAND: the check accepts exactly when document 01's conditions are met, else gives the first refusal; listing and arc
+-- question are exact too
+-- A file is its records.
+unfoldable pub Records-back : Type 0
+Records-back = (bs : List ℕ) → all-bytes bs ≡ true → length bs % 8 ≡ 0 → all-record-bytes (all-records bs) ≡ bs
+
+-- Of a pack that passes 1 to 6, `pack-in` is the system read.
+unfoldable pub Pack-is-read : Type 0
+Pack-is-read =
+    (bs : List ℕ) (p : System) → (read-pack bs ≡ passed p → (pack-refusal bs ≡ 0) × (pack-in bs ≡ p))
+    × ((pack-refusal bs ≡ 0) × (pack-in bs ≡ p) → read-pack bs ≡ passed p)
+
 -- The bytes of a good system are read without refusal and give it back.
 unfoldable pub Packs-back : Type 0
 Packs-back = (p : System) → Good-pack p → read-pack (pack-bytes p) ≡ passed p
@@ -87,6 +121,17 @@ Packs-back = (p : System) → Good-pack p → read-pack (pack-bytes p) ≡ passe
 unfoldable pub Packs-only : Type 0
 Packs-only = (bs : List ℕ) (p : System) → all-bytes bs ≡ true → read-pack bs ≡ passed p → (bs ≡ pack-bytes p) × Good-pack p
 
+-- The same of the components of a certificate.
+unfoldable pub Certificates-back : Type 0
+Certificates-back =
+    (p : System) (cs : List Component) → Good-pack p → Good-certificate p cs → length (certificate-bytes cs) ≤ 24576 →
+    read-certificate p (certificate-bytes cs) ≡ passed cs
+
+unfoldable pub Certificates-only : Type 0
+Certificates-only =
+    (p : System) (ds : List ℕ) (cs : List Component) → all-bytes ds ≡ true → read-certificate p ds ≡ passed cs →
+    (ds ≡ certificate-bytes cs) × Good-certificate p cs × (length ds ≤ 24576)
+
 -- The check accepts exactly when the certificate meets document 01's conditions.
 pub record Certified (bs ds : List ℕ) : Type 0 where
   pub system : System
@@ -94,7 +139,7 @@ pub record Certified (bs ds : List ℕ) : Type 0 where
   pub good-pack : Good-pack system
   pub pack-is : bs ≡ pack-bytes system
   pub good-certificate : Good-certificate system components
-  pub length-within : length ds ≤ certificates.most-bytes
+  pub length-within : length ds ≤ 24576
   pub certificate-is : ds ≡ certificate-bytes components
   pub shows : Shows system components
 
@@ -105,13 +150,77 @@ Accepted-exactly =
 -- Else it gives the first refusal in document 01's order. 1: a length is over its limit or no multiple of 8.
 unfoldable pub Refused-1 : Type 0
 Refused-1 =
-    (bs ds : List ℕ) → (check bs ds ≡ 1 → (length-bad packs.most-bytes bs || length-bad certificates.most-bytes ds) ≡ true)
-    × ((length-bad packs.most-bytes bs || length-bad certificates.most-bytes ds) ≡ true → check bs ds ≡ 1)
+    (bs ds : List ℕ) → (check bs ds ≡ 1 → (length-bad 33792 bs || length-bad 24576 ds) ≡ true)
+    × ((length-bad 33792 bs || length-bad 24576 ds) ≡ true → check bs ds ≡ 1)
 
--- 2 to 7: the pack's refusal comes before the certificate's, and a refusal met at a record stays, whatever follows it.
+-- The same of a pack by itself: 1, and 2 to 6. The listing and the arc question give these numbers too.
+unfoldable pub Pack-refused-1 : Type 0
+Pack-refused-1 =
+    (bs : List ℕ) → (read-pack bs ≡ refused 1 → length-bad 33792 bs ≡ true) × (length-bad 33792 bs ≡ true → read-pack bs ≡ refused 1)
+
+unfoldable pub Pack-refused-2-to-6 : Type 0
+Pack-refused-2-to-6 =
+    (bs : List ℕ) (n : ℕ) → length-bad 33792 bs ≡ false →
+    (read-pack bs ≡ refused n → Pack-fails (all-records bs) n) × (Pack-fails (all-records bs) n → read-pack bs ≡ refused n)
+
+-- The same of a certificate by itself: 1, and 2, 3 and 7.
+unfoldable pub Certificate-refused-1 : Type 0
+Certificate-refused-1 =
+    (p : System) (ds : List ℕ) → (read-certificate p ds ≡ refused 1 → length-bad 24576 ds ≡ true)
+    × (length-bad 24576 ds ≡ true → read-certificate p ds ≡ refused 1)
+
+unfoldable pub Certificate-refused-2-to-7 : Type 0
+Certificate-refused-2-to-7 =
+    (p : System) (ds : List ℕ) (n : ℕ) → all-bytes ds ≡ true → length-bad 24576 ds ≡ false →
+    (read-certificate p ds ≡ refused n → Certificate-fails p (all-records ds) n)
+    × (Certificate-fails p (all-records ds) n → read-certificate p ds ≡ refused n)
+
+-- 2 to 7, of two files whose lengths are right: all that stands before a record, or before the end of the file, is good, and this fails.
+unfoldable pub Given-exactly : (number : ℕ) → (Fails : (bs ds : List ℕ) → Type 0) → Type 0
+Given-exactly n Fails =
+    (bs ds : List ℕ) → all-bytes ds ≡ true → (length-bad 33792 bs || length-bad 24576 ds) ≡ false →
+    (check bs ds ≡ n → Fails bs ds) × (Fails bs ds → check bs ds ≡ n)
+
+unfoldable pub Pack-refused : (number : ℕ) → (bs ds : List ℕ) → Type 0
+Pack-refused n bs ds = Pack-fails (all-records bs) n
+
+-- the pack passes
+pub record Certificate-refused (number : ℕ) (bs ds : List ℕ) : Type 0 where
+  pub system : System
+  pub pack-read : read-pack bs ≡ passed system
+  pub fails : Certificate-fails system (all-records ds) number
+
+unfoldable pub Either-refused : (number : ℕ) → (bs ds : List ℕ) → Type 0
+Either-refused n bs ds = Pack-refused n bs ds ⊎ Certificate-refused n bs ds
+
+-- stray record
+unfoldable pub Refused-2 : Type 0
+Refused-2 = Given-exactly 2 (Either-refused 2)
+
+-- out of range
+unfoldable pub Refused-3 : Type 0
+Refused-3 = Given-exactly 3 (Either-refused 3)
+
+-- broken side
+unfoldable pub Refused-4 : Type 0
+Refused-4 = Given-exactly 4 (Pack-refused 4)
+
+-- bare left
+unfoldable pub Refused-5 : Type 0
+Refused-5 = Given-exactly 5 (Pack-refused 5)
+
+-- loose variable
+unfoldable pub Refused-6 : Type 0
+Refused-6 = Given-exactly 6 (Pack-refused 6)
+
+-- no such pair
+unfoldable pub Refused-7 : Type 0
+Refused-7 = Given-exactly 7 (Certificate-refused 7)
+
+-- The pack's refusal comes before the certificate's, and a refusal met at a record stays, whatever follows it.
 unfoldable pub Pack-first : Type 0
 Pack-first =
-    (bs ds : List ℕ) (n : ℕ) → length-bad certificates.most-bytes ds ≡ false → read-pack bs ≡ refused n → check bs ds ≡ n
+    (bs ds : List ℕ) (n : ℕ) → length-bad 24576 ds ≡ false → read-pack bs ≡ refused n → check bs ds ≡ n
 
 unfoldable pub Then-certificate : Type 0
 Then-certificate =
@@ -119,35 +228,53 @@ Then-certificate =
 
 unfoldable pub Pack-refusals-stay : Type 0
 Pack-refusals-stay =
-    (rs more : List Record) (x : packs.Reading) (n : ℕ) → pack-steps rs x ≡ refused n → pack-from (rs ++ more) x ≡ refused n
+    (rs more : List Record) (x : packs.Pack-reading) (n : ℕ) → pack-steps rs x ≡ refused n → pack-from (rs ++ more) x ≡ refused n
 
 unfoldable pub Certificate-refusals-stay : Type 0
 Certificate-refusals-stay =
-    (p : System) (rs more : List Record) (x : certificates.Reading) (n : ℕ) → cert-steps p rs x ≡ refused n →
+    (p : System) (rs more : List Record) (x : certificates.Certificate-reading) (n : ℕ) → cert-steps p rs x ≡ refused n →
     cert-from p (rs ++ more) x ≡ refused n
 
--- 8 to 13, of two files that were read: everything before holds, and this fails.
-pub record Read (bs ds : List ℕ) (p : System) (cs : List Component) : Type 0 where
-  pub pack-read : read-pack bs ≡ passed p
-  pub certificate-read : read-certificate p ds ≡ passed cs
+-- 8 to 13: both files were read, everything before holds, and this fails.
+pub record Read-and (Fails : System → List Component → Type 0) (bs ds : List ℕ) : Type 0 where
+  pub system : System
+  pub components : List Component
+  pub pack-read : read-pack bs ≡ passed system
+  pub certificate-read : read-certificate system ds ≡ passed components
+  pub fails : Fails system components
 
+unfoldable pub Judged-exactly : (number : ℕ) → (Fails : System → List Component → Type 0) → Type 0
+Judged-exactly n Fails = (bs ds : List ℕ) → (check bs ds ≡ n → Read-and Fails bs ds) × (Read-and Fails bs ds → check bs ds ≡ n)
+
+-- pair count
 unfoldable pub Refused-8 : Type 0
-Refused-8 =
-    (bs ds : List ℕ) (p : System) (cs : List Component) → Read bs ds p cs →
-    (check bs ds ≡ 8 → Each-once p cs → ⊥) × ((Each-once p cs → ⊥) → check bs ds ≡ 8)
+Refused-8 = Judged-exactly 8 (λ p cs. Each-once p cs → ⊥)
 
+-- back arc
 unfoldable pub Refused-9 : Type 0
-Refused-9 =
-    (bs ds : List ℕ) (p : System) (cs : List Component) → Read bs ds p cs →
-    (check bs ds ≡ 9 → Each-once p cs × (No-back-arc p cs → ⊥)) × (Each-once p cs × (No-back-arc p cs → ⊥) → check bs ds ≡ 9)
+Refused-9 = Judged-exactly 9 (λ p cs. Each-once p cs × (No-back-arc p cs → ⊥))
 
-unfoldable pub Refused-10-to-13 : Type 0
-Refused-10-to-13 =
-    (bs ds : List ℕ) (p : System) (cs : List Component) (n : ℕ) → Read bs ds p cs → 10 ≤ n →
-    (check bs ds ≡ n → Each-once p cs × No-back-arc p cs × First-failure p cs n)
-    × (Each-once p cs × No-back-arc p cs × First-failure p cs n → check bs ds ≡ n)
+-- the first component that fails
+abbrev pub Component-fails : (number : ℕ) → System → List Component → Type 0
+Component-fails n p cs = Each-once p cs × No-back-arc p cs × First-failure p cs n
 
--- The order of records: which kind may stand after which is the table.
+-- self arc
+unfoldable pub Refused-10 : Type 0
+Refused-10 = Judged-exactly 10 (Component-fails 10)
+
+-- heavy
+unfoldable pub Refused-11 : Type 0
+Refused-11 = Judged-exactly 11 (Component-fails 11)
+
+-- rule rises
+unfoldable pub Refused-12 : Type 0
+Refused-12 = Judged-exactly 12 (Component-fails 12)
+
+-- pair stays
+unfoldable pub Refused-13 : Type 0
+Refused-13 = Judged-exactly 13 (Component-fails 13)
+
+-- Of files that were read, each kind stands after one that the table lets it follow; counts and weightings are Refused-2's.
 unfoldable pub Packs-obey : Type 0
 Packs-obey = (bs : List ℕ) (p : System) → read-pack bs ≡ passed p → obeys pack-edge pack-edge (all-records bs) ≡ true
 
@@ -163,6 +290,61 @@ Pairs-listed =
 
 unfoldable pub Listing-rises : Type 0
 Listing-rises = (p : System) → rising (λ q. q .at-rule) (λ q. q .place) (pairs p) ≡ true
+
+-- The listing judges the pack alone, then 14: the buffer cannot hold all pairs.
+unfoldable pub Listing-first : Type 0
+Listing-first =
+    (bs : List ℕ) (room n : ℕ) → (listing bs room ≡ refused n → (n ≡ 14) ⊎ (read-pack bs ≡ refused n))
+    × (read-pack bs ≡ refused n → listing bs room ≡ refused n)
+
+unfoldable pub Refused-14 : Type 0
+Refused-14 =
+    (bs : List ℕ) (room : ℕ) →
+    (listing bs room ≡ refused 14 → (pack-refusal bs ≡ 0) × (room < 8 * length (pairs (pack-in bs))))
+    × ((pack-refusal bs ≡ 0) × (room < 8 * length (pairs (pack-in bs))) → listing bs room ≡ refused 14)
+
+unfoldable pub Listing-passes : Type 0
+Listing-passes =
+    (bs : List ℕ) (room : ℕ) (qs : List Pair) →
+    (listing bs room ≡ passed qs → (pack-refusal bs ≡ 0) × (8 * length (pairs (pack-in bs)) ≤ room) × (qs ≡ pairs (pack-in bs)))
+    × ((pack-refusal bs ≡ 0) × (8 * length (pairs (pack-in bs)) ≤ room) × (qs ≡ pairs (pack-in bs)) → listing bs room ≡ passed qs)
+
+-- A refused listing counts 0 and leaves the buffer as it was.
+unfoldable pub Refused-leaves : Type 0
+Refused-leaves =
+    (bs o : List ℕ) (n : ℕ) → listing bs (length o) ≡ refused n →
+    (list-value (listing bs (length o)) ≡ 0) × (buffer-after (listing bs (length o)) o ≡ o)
+
+-- An accepted one counts the pairs, writes a P record for each, and no other byte.
+pub record Filled (qs : List Pair) (before after : List ℕ) : Type 0 where
+  pub length-kept : length after ≡ length before
+  pub records : (k : ℕ) → k < length qs → record-at after (8 * k) ≡ a-record P-pair (getD qs k (a-pair 0 0) .at-rule) (getD qs k (a-pair 0 0) .place) 0
+  pub others : (i : ℕ) → 8 * length qs ≤ i → getD after i 0 ≡ getD before i 0
+
+unfoldable pub Passed-fills : Type 0
+Passed-fills =
+    (bs o : List ℕ) (qs : List Pair) → listing bs (length o) ≡ passed qs →
+    (list-value (listing bs (length o)) ≡ length qs) × Filled qs o (buffer-after (listing bs (length o)) o)
+
+-- The arc question judges the pack, then 7 for its two pairs, then the arc.
+unfoldable pub Arc-first : Type 0
+Arc-first =
+    (bs : List ℕ) (q r : Pair) (n : ℕ) → (arc-question bs q r ≡ refused n → (n ≡ 7) ⊎ (read-pack bs ≡ refused n))
+    × (read-pack bs ≡ refused n → arc-question bs q r ≡ refused n)
+
+unfoldable pub Arc-refused-7 : Type 0
+Arc-refused-7 =
+    (bs : List ℕ) (q r : Pair) →
+    (arc-question bs q r ≡ refused 7 → (pack-refusal bs ≡ 0) × (is-pair (pack-in bs) q && is-pair (pack-in bs) r ≡ false))
+    × ((pack-refusal bs ≡ 0) × (is-pair (pack-in bs) q && is-pair (pack-in bs) r ≡ false) → arc-question bs q r ≡ refused 7)
+
+unfoldable pub Arc-passes : Type 0
+Arc-passes =
+    (bs : List ℕ) (q r : Pair) (b : Bool) →
+    (arc-question bs q r ≡ passed b →
+    (pack-refusal bs ≡ 0) × (is-pair (pack-in bs) q && is-pair (pack-in bs) r ≡ true) × (b ≡ arc (pack-in bs) q r))
+    × ((pack-refusal bs ≡ 0) × (is-pair (pack-in bs) q && is-pair (pack-in bs) r ≡ true) × (b ≡ arc (pack-in bs) q r) →
+    arc-question bs q r ≡ passed b)
 
 -- A symbol is defined if it is the root of some left side.
 unfoldable pub Defined-exactly : Type 0
@@ -214,10 +396,53 @@ Limit-means =
     ((ws : List Weight) (t : Tree) → (over ws t ≡ false → Nodes-within ws t) × (Nodes-within ws t → over ws t ≡ false))
     × ((w : Weighting) (t : Tree) → (marked-over w t ≡ false → Side-within w t) × (Side-within w t → marked-over w t ≡ false))
 
+-- THE LIMITS are met: a longer file is never read, and one at all the limits of its counts is.
+unfoldable pub Pack-limits : Type 0
+Pack-limits =
+    ((bs : List ℕ) → 33792 < length bs → read-pack bs ≡ refused 1)
+    × (read-pack (pack-bytes largest-pack) ≡ passed largest-pack)
+    × (length (pack-bytes largest-pack) ≡ 33792)
+
+unfoldable pub Certificate-limits : Type 0
+Certificate-limits =
+    ((p : System) (ds : List ℕ) → 24576 < length ds → read-certificate p ds ≡ refused 1)
+    × (read-certificate loop (certificate-bytes longest-certificate) ≡ passed longest-certificate)
+    × (length (certificate-bytes longest-certificate) ≡ 24576)
+
+unfoldable pub Pairs-limit : Type 0
+Pairs-limit =
+    (read-certificate dense-pack (certificate-bytes dense-certificate) ≡ passed dense-certificate) × (length (pairs dense-pack) ≡ 2048)
+
+-- A node of 4,294,967,295 is allowed, one of 4,294,967,296 is 11.
+unfoldable pub Forms-limit : Type 0
+Forms-limit =
+    (check (pack-bytes brink) (certificate-bytes (brink-with 0)) ≡ 0) × (check (pack-bytes brink) (certificate-bytes (brink-with 1)) ≡ 11)
+
 -- NOT VACUOUS
--- The starred cases of document 01, from the bytes of both files.
+-- The starred cases of document 01, from the bytes of both files; a → a under a weighting is Loop-refused.
 unfoldable pub Starred-cases : Type 0
 Starred-cases = map (λ c. check (pack-bytes (c .pack)) (certificate-bytes (c .certificate))) starred ≡ map (λ c. c .number) starred
+
+-- The numbers that none of these has, and 14: a list of 23 bytes is short for Division, and one of 24 is not.
+unfoldable pub Other-numbers : Type 0
+Other-numbers = map (λ f. check (f .pack) (f .certificate)) others ≡ map (λ f. f .number) others
+
+unfoldable pub Short-list : Type 0
+Short-list = (listing (pack-bytes division) 23 ≡ refused 14) × (listing (pack-bytes division) 24 ≡ passed (pairs division))
+
+-- The pair (1, 0) of Division has an arc to itself and none to (3, 1); (0, 0) is no pair.
+unfoldable pub Concrete-arcs : Type 0
+Concrete-arcs =
+    (arc-question (pack-bytes division) (a-pair 1 0) (a-pair 1 0) ≡ passed true)
+    × (arc-question (pack-bytes division) (a-pair 1 0) (a-pair 3 1) ≡ passed false)
+    × (arc-question (pack-bytes division) (a-pair 1 0) (a-pair 0 0) ≡ refused 7)
+
+-- Division's files have 296 and 128 bytes, and it has three pairs.
+unfoldable pub Division-sizes : Type 0
+Division-sizes =
+    (length (pack-bytes division) ≡ 296)
+    × (length (certificate-bytes division-shown) ≡ 128)
+    × (pairs division ≡ a-pair 1 0 ∷ a-pair 3 1 ∷ a-pair 3 2 ∷ [])
 
 -- a → a with any single weighting: 13, whatever the certificate's bytes.
 unfoldable pub Loop-refused : Type 0
@@ -230,4 +455,5 @@ Concrete-step =
     (is-term division (app₂ 2 (constant 0) (constant 0)) ≡ true) × Step division full (app₂ 2 (constant 0) (constant 0)) (constant 0)
 
 unfoldable pub Concrete-chain : Type 0
-Concrete-chain = (x : Link) × (y : Link) × Valid division full x × Next division full x y
+Concrete-chain =
+    (x : Link) × (y : Link) × (x .pair ≡ a-pair 1 0) × (y .pair ≡ a-pair 1 0) × Valid division full x × Next division full x y

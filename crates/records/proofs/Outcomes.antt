@@ -1,11 +1,15 @@
--- What it tells that a reading passed: the tests on its way came out well, and each part of it passed. What numbers the
--- refusals of a reading have.
-use mathlib.Core.Path.{_≡_, refl}
+-- What it tells that a reading passed: the tests on its way came out well, and each part of it passed; and that it was
+-- refused: one part was. What numbers the refusals of a reading have.
+use mathlib.Core.Path.{_≡_, refl, ap}
 use mathlib.Core.Bool.{Bool, true, false, cond}
+use mathlib.Core.Logic.{_⊎_, inl, inr}
 use Prim.Native.Nat.{ℕ, _≤_}
 use native.Mathlib.Omega.{arith}
 use lib.Dec.{leb}
 use borrow.Author.Tests.{leb-true, le-leb}
+use Rattle.records.specs.declared.Refusal.{Refusal}
+use Rattle.records.specs.declared.Refusal.the-variants.{CutFile, StrayRecord, OutOfRange, BrokenSide, BareLeft, LooseVariable, NoSuchPair, PairCount, BackArc, SelfArc, Heavy, RuleRises, PairStays, ShortList}
+use Rattle.records.specs.Answers.{number-of}
 use Rattle.records.specs.Outcomes.{Outcome, refused, passed, after, refusal}
 
 -- a refusal is no passing
@@ -14,6 +18,9 @@ not-passed {A = A} {n = n} {x = x} e = let z : _≡_ {A = ℕ} 0 1 = cc in absur
 
 pub passed-same : {A : Type 0} {x y : A} → passed x ≡ passed y → x ≡ y
 passed-same e = cc
+
+pub refused-same : {A : Type 0} {m n : ℕ} → _≡_ {A = Outcome A} (refused m) (refused n) → m ≡ n
+refused-same e = cc
 
 -- a test in front of a reading that passed
 module _ {A : Type 0} {x : A} where
@@ -30,6 +37,10 @@ module _ {A B : Type 0} where
   pub after-passed : (o : Outcome A) (k : A → Outcome B) {y : B} → after o k ≡ passed y → (x : A) × (o ≡ passed x) × (k x ≡ passed y)
   after-passed (refused n) k e = not-passed e
   after-passed (passed x) k e = (x, refl, e)
+
+  pub after-refused : (o : Outcome A) (k : A → Outcome B) {n : ℕ} → after o k ≡ refused n → (o ≡ refused n) ⊎ ((x : A) × (o ≡ passed x) × (k x ≡ refused n))
+  after-refused (refused m) k e = inl (ap refused (refused-same e))
+  after-refused (passed x) k e = inr (x, refl, e)
 
   pub after-same : (o : Outcome A) (k l : A → Outcome B) → ((x : A) → k x ≡ l x) → after o k ≡ after o l
   after-same (refused n) k l h = refl
@@ -69,3 +80,20 @@ pub ruleset within = (test-within, after-within, numbered, not-refused)
 pub none-refused : {A : Type 0} {m : ℕ} {o : Outcome A} → Refused-within 1 m o → refusal o ≡ 0 → (x : A) × (o ≡ passed x)
 none-refused (numbered n h i) e = absurd (omega (arith, leb-true 1 n h))
 none-refused (not-refused x) e = (x, refl)
+
+-- no refusal of the table has the number 0
+pub number-some : (x : Refusal) → 1 ≤ number-of x
+number-some CutFile = omega arith
+number-some StrayRecord = omega arith
+number-some OutOfRange = omega arith
+number-some BrokenSide = omega arith
+number-some BareLeft = omega arith
+number-some LooseVariable = omega arith
+number-some NoSuchPair = omega arith
+number-some PairCount = omega arith
+number-some BackArc = omega arith
+number-some SelfArc = omega arith
+number-some Heavy = omega arith
+number-some RuleRises = omega arith
+number-some PairStays = omega arith
+number-some ShortList = omega arith

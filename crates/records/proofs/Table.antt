@@ -3,13 +3,12 @@
 use mathlib.Core.Path.{_≡_, refl, sym, subst}
 use mathlib.Core.Bool.{Bool, true, false, false≢true}
 use mathlib.Core.Logic.{_⊎_, ⊎-elim}
-use Prim.Native.Nat.{ℕ, zero, suc, _+_, _-_, _*_, _/_, _%_, _^_, _≤_, _<_}
+use Prim.Native.Nat.{ℕ, zero, suc, _+_, _-_, _/_, _%_, _^_, _≤_, _<_}
 use native.Mathlib.Nat.{le-of-suc-le-suc}
 use native.Mathlib.Omega.{arith}
 use lib.Dec.{ltb, eqb}
-use lib.ListN.{getD}
 use borrow.Author.Tests.{eqb-true, ne-eqb, lt-ltb, le-leb}
-use Rattle.records.specs.Order.{S-symbol, R-rule, F-application, V-variable, C-component, P-pair, W-weight, M-marked, index, order, lets, may-follow}
+use Rattle.records.specs.Order.{S-symbol, R-rule, F-application, V-variable, C-component, P-pair, W-weight, M-marked, index, order, when-in, entry, lets, may-follow}
 use Rattle.records.specs.declared.order.Row.{Row}
 use Rattle.records.specs.Rows.{column-at, bit, Says, Row-says}
 
@@ -45,10 +44,6 @@ kind-of k =
 
 -- THE TABLE
 
--- what stands in the table for a kind after another
-abbrev pub entry : (before next : ℕ) → ℕ
-entry before next = getD order (11 * before + next) 0
-
 pub may-follow-entry : (before next due : ℕ) (weighted : Bool) → may-follow before next due weighted ≡ true → entry before next ≡ 0 → ⊥
 unfolding may-follow lets
 may-follow-entry before next due weighted h e = false≢true (rw e at h)
@@ -80,21 +75,21 @@ zero-in m n f h i j k l = zero-below n (f i) (zero-below m (λ i. sum-below n (f
 
 -- in a pack no kind of the certificate may stand, nor any other byte
 pub pack-apart : (before next : ℕ) → before < 5 → 5 ≤ next → next ≤ 10 → entry before next ≡ 0
-unfolding order sum-below sum-of
+unfolding entry order when-in sum-below sum-of
 pack-apart before next h k l =
     let f : 5 + (next - 5) ≡ next = omega arith in
     rw f at (zero-in 5 6 (λ i j. entry i (5 + j)) refl before (next - 5) h (omega arith))
 
 -- in a certificate no kind of the pack may stand
 pub certificate-apart : (before next : ℕ) → 5 ≤ before → before ≤ 10 → next < 5 → entry before next ≡ 0
-unfolding order sum-below sum-of
+unfolding entry order when-in sum-below sum-of
 certificate-apart before next h k l =
     let f : 5 + (before - 5) ≡ before = omega arith in
     rw f at (zero-in 6 5 (λ i j. entry (5 + i) j) refl (before - 5) next (omega arith) l)
 
 -- any other byte may stand nowhere
 pub other-nowhere : (before : ℕ) → before ≤ 10 → entry before 10 ≡ 0
-unfolding order sum-below sum-of
+unfolding entry order when-in sum-below sum-of
 other-nowhere before h = zero-in 11 1 (λ i j. entry i 10) refl before 0 (omega arith) (omega arith)
 
 -- THE CODE'S TABLE: three numbers to a row, a bit to a column
@@ -135,10 +130,10 @@ row-says before {row} {l} {d} {w} e (el, ed, ew) none =
 five-past : (b n : ℕ) → n ≤ b → (b ≡ n → ⊥) → (b ≡ n + 1 → ⊥) → (b ≡ n + 2 → ⊥) → (b ≡ n + 3 → ⊥) → (b ≡ n + 4 → ⊥) → n + 5 ≤ b
 five-past b n h n0 n1 n2 n3 n4 = omega arith
 
-pub last-row : {U : Type 0} (b : ℕ) → b < 11
+pub tenth-row : {U : Type 0} (b : ℕ) → b < 11
     → (((((((((U × (b ≡ 0 → ⊥)) × (b ≡ 1 → ⊥)) × (b ≡ 2 → ⊥)) × (b ≡ 3 → ⊥)) × (b ≡ 4 → ⊥)) × (b ≡ 5 → ⊥)) × (b ≡ 6 → ⊥)) × (b ≡ 7 → ⊥)) × (b ≡ 8 → ⊥)) × (b ≡ 9 → ⊥)
     → b ≡ 10
-last-row b h ((((((((((_, n0), n1), n2), n3), n4), n5), n6), n7), n8), n9) =
+tenth-row b h ((((((((((_, n0), n1), n2), n3), n4), n5), n6), n7), n8), n9) =
     let past = five-past b 5 (five-past b 0 (omega arith) n0 n1 n2 n3 n4) n5 n6 n7 n8 n9 in
     ten b h past
   where

@@ -22,6 +22,6 @@ number-of RuleRises = 12
 number-of PairStays = 13
 number-of ShortList = 14
 
-abbrev pub outcome-of : Answer → Outcome ℕ
-outcome-of (Passed n) = passed n
-outcome-of (Refused x) = refused (number-of x)
+abbrev pub answer-outcome : Answer → Outcome ℕ
+answer-outcome (Passed n) = passed n
+answer-outcome (Refused x) = refused (number-of x)

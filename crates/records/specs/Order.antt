@@ -1,7 +1,7 @@
--- Which kind may stand after which, as one table for both files.
+-- Which kind may stand after which: document 01's table, one for both files.
 use mathlib.Core.Bool.{Bool, true, false, _&&_, cond}
 use mathlib.Core.List.{List, [], _∷_}
-use Prim.Native.Nat.{ℕ, zero, suc, _+_, _*_}
+use Prim.Native.Nat.{ℕ, zero, suc}
 use lib.Dec.{ltb, leb, eqb}
 use lib.ListN.{getD}
 use Rattle.records.specs.declared.Record.{Record}
@@ -31,62 +31,117 @@ W-weight = 87
 abbrev pub M-marked : ℕ
 M-marked = 77
 
--- a kind's row and column in the table; rows and columns 0 and 5 are the start and the end of a file
+-- a kind's row and column in the table; rows and columns 0 and 5 are the start and the end of a file, 10 is any other byte
 abbrev pub pack-edge : ℕ
 pack-edge = 0
 
 abbrev pub certificate-edge : ℕ
 certificate-edge = 5
 
+abbrev S : ℕ
+S = 1
+
+abbrev R : ℕ
+R = 2
+
+abbrev F : ℕ
+F = 3
+
+abbrev V′ : ℕ
+V′ = 4
+
+abbrev C : ℕ
+C = 6
+
+abbrev P : ℕ
+P = 7
+
+abbrev W : ℕ
+W = 8
+
+abbrev M : ℕ
+M = 9
+
+abbrev other : ℕ
+other = 10
+
 unfoldable pub index : ℕ → ℕ
 index k =
-    cond (eqb k S-symbol) 1
-    (cond (eqb k R-rule) 2
-    (cond (eqb k F-application) 3
-    (cond (eqb k V-variable) 4
-    (cond (eqb k C-component) 6 (cond (eqb k P-pair) 7 (cond (eqb k W-weight) 8 (cond (eqb k M-marked) 9 10)))))))
+    cond (eqb k S-symbol) S
+    (cond (eqb k R-rule) R
+    (cond (eqb k F-application) F
+    (cond (eqb k V-variable) V′
+    (cond (eqb k C-component) C (cond (eqb k P-pair) P (cond (eqb k W-weight) W (cond (eqb k M-marked) M other)))))))
 
--- A row for what stands before, a column for what comes: 0 may not stand, 1 may stand, 2 may stand while the count lasts
--- (a rule's nodes, a component's pairs), 3 after it, 4 after it in a component with a weighting.
--- In each row: end of pack, S, R, F, V, end of certificate, C, P, W, M, any other byte.
-abbrev after-pack-start : List ℕ → List ℕ
-after-pack-start rest = 1 ∷ 1 ∷ 0 ∷ 0 ∷ 0 ∷ 0 ∷ 0 ∷ 0 ∷ 0 ∷ 0 ∷ 0 ∷ rest
+-- What may come in a row, and when: 1 always, 2 while the count lasts (a rule's nodes, a component's pairs), 3 after it, 4 after it
+-- in a component with a weighting.
+pub record May : Type 0 where
+  pub come : ℕ
+  pub when : ℕ
 
-abbrev after-S : List ℕ → List ℕ
-after-S rest = 1 ∷ 1 ∷ 1 ∷ 0 ∷ 0 ∷ 0 ∷ 0 ∷ 0 ∷ 0 ∷ 0 ∷ 0 ∷ rest
+abbrev always : ℕ → May
+always k = record { come = k; when = 1 }
 
-abbrev after-R : List ℕ → List ℕ
-after-R rest = 0 ∷ 0 ∷ 0 ∷ 1 ∷ 1 ∷ 0 ∷ 0 ∷ 0 ∷ 0 ∷ 0 ∷ 0 ∷ rest
+abbrev inside-count : ℕ → May
+inside-count k = record { come = k; when = 2 }
 
-abbrev after-F : List ℕ → List ℕ
-after-F rest = 3 ∷ 0 ∷ 3 ∷ 2 ∷ 2 ∷ 0 ∷ 0 ∷ 0 ∷ 0 ∷ 0 ∷ 0 ∷ rest
+abbrev after-count : ℕ → May
+after-count k = record { come = k; when = 3 }
 
-abbrev after-V : List ℕ → List ℕ
-after-V rest = 3 ∷ 0 ∷ 3 ∷ 2 ∷ 2 ∷ 0 ∷ 0 ∷ 0 ∷ 0 ∷ 0 ∷ 0 ∷ rest
+abbrev when-weighted : ℕ → May
+when-weighted k = record { come = k; when = 4 }
 
-abbrev after-certificate-start : List ℕ → List ℕ
-after-certificate-start rest = 0 ∷ 0 ∷ 0 ∷ 0 ∷ 0 ∷ 1 ∷ 1 ∷ 0 ∷ 0 ∷ 0 ∷ 0 ∷ rest
+-- THE TABLE, a row for what stands before
+abbrev after-pack-start : List May
+after-pack-start = always S ∷ always pack-edge ∷ []
 
-abbrev after-C : List ℕ → List ℕ
-after-C rest = 0 ∷ 0 ∷ 0 ∷ 0 ∷ 0 ∷ 0 ∷ 0 ∷ 1 ∷ 0 ∷ 0 ∷ 0 ∷ rest
+abbrev after-S : List May
+after-S = always S ∷ always R ∷ always pack-edge ∷ []
 
-abbrev after-P : List ℕ → List ℕ
-after-P rest = 0 ∷ 0 ∷ 0 ∷ 0 ∷ 0 ∷ 3 ∷ 3 ∷ 2 ∷ 4 ∷ 4 ∷ 0 ∷ rest
+abbrev after-R : List May
+after-R = always F ∷ always V′ ∷ []
 
-abbrev after-W : List ℕ → List ℕ
-after-W rest = 0 ∷ 0 ∷ 0 ∷ 0 ∷ 0 ∷ 1 ∷ 1 ∷ 0 ∷ 1 ∷ 1 ∷ 0 ∷ rest
+abbrev after-F-or-V : List May
+after-F-or-V = inside-count F ∷ inside-count V′ ∷ after-count R ∷ after-count pack-edge ∷ []
 
-abbrev after-M : List ℕ → List ℕ
-after-M rest = 0 ∷ 0 ∷ 0 ∷ 0 ∷ 0 ∷ 1 ∷ 1 ∷ 0 ∷ 0 ∷ 1 ∷ 0 ∷ rest
+abbrev after-certificate-start : List May
+after-certificate-start = always C ∷ always certificate-edge ∷ []
 
-abbrev after-other : List ℕ → List ℕ
-after-other rest = 0 ∷ 0 ∷ 0 ∷ 0 ∷ 0 ∷ 0 ∷ 0 ∷ 0 ∷ 0 ∷ 0 ∷ 0 ∷ rest
+abbrev after-C : List May
+after-C = always P ∷ []
 
-unfoldable pub order : List ℕ
+abbrev after-P : List May
+after-P = inside-count P ∷ after-count C ∷ after-count certificate-edge ∷ when-weighted W ∷ when-weighted M ∷ []
+
+abbrev after-W : List May
+after-W = always W ∷ always M ∷ always C ∷ always certificate-edge ∷ []
+
+abbrev after-M : List May
+after-M = always M ∷ always C ∷ always certificate-edge ∷ []
+
+unfoldable pub order : List (List May)
 order =
-    after-pack-start (after-S (after-R (after-F (after-V (after-certificate-start (after-C (after-P (after-W (after-M (after-other []))))))))))
+    after-pack-start
+    ∷ after-S
+    ∷ after-R
+    ∷ after-F-or-V
+    ∷ after-F-or-V
+    ∷ after-certificate-start
+    ∷ after-C
+    ∷ after-P
+    ∷ after-W
+    ∷ after-M
+    ∷ []
 
--- whether a table's entry lets a record stand, by the count still due and whether the component has a weighting
+-- when it may come in a row, 0 for never
+unfoldable pub when-in : List May → ℕ → ℕ
+when-in [] k = 0
+when-in (m ∷ ms) k = cond (eqb (m .come) k) (m .when) (when-in ms k)
+
+unfoldable pub entry : (before next : ℕ) → ℕ
+entry before next = when-in (getD order before []) next
+
+-- whether an entry lets a record stand, by the count still due and whether the component has a weighting
 unfoldable pub lets : ℕ → ℕ → Bool → Bool
 lets zero due weighted = false
 lets (suc zero) due weighted = true
@@ -95,9 +150,14 @@ lets (suc (suc (suc zero))) due weighted = eqb due 0
 lets (suc (suc (suc (suc n)))) due weighted = eqb due 0 && weighted
 
 unfoldable pub may-follow : (before next : ℕ) → (due : ℕ) → (weighted : Bool) → Bool
-may-follow before next due weighted = lets (getD order (11 * before + next) 0) due weighted
+may-follow before next due weighted = lets (entry before next) due weighted
 
 -- consecutive kinds obey the table, from what stands before them to the end of the file
 unfoldable pub obeys : (before edge : ℕ) → List Record → Bool
-obeys k e [] = ltb 0 (getD order (11 * k + e) 0)
-obeys k e (r ∷ rs) = ltb 0 (getD order (11 * k + index (r .kind)) 0) && obeys (index (r .kind)) e rs
+obeys k e [] = ltb 0 (entry k e)
+obeys k e (r ∷ rs) = ltb 0 (entry k (index (r .kind))) && obeys (index (r .kind)) e rs
+
+-- what stands last in records that begin after `before`: its row
+unfoldable pub last-row : (before : ℕ) → List Record → ℕ
+last-row k [] = k
+last-row k (r ∷ rs) = last-row (index (r .kind)) rs

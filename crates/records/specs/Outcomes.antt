@@ -1,6 +1,6 @@
 -- What reading comes to: a refusal with its number in document 01's table, or what was read.
-use mathlib.Core.Bool.{Bool, true, false}
-use Prim.Native.Nat.{ℕ, zero}
+use mathlib.Core.Bool.{Bool, cond}
+use Prim.Native.Nat.{ℕ}
 
 pub data Outcome (A : Type 0) : Type 0 where
   refused : ℕ → Outcome A
@@ -10,6 +10,10 @@ pub data Outcome (A : Type 0) : Type 0 where
 abbrev pub after : {A B : Type 0} → Outcome A → (A → Outcome B) → Outcome B
 after (refused n) k = refused n
 after (passed x) k = k x
+
+-- refused with n unless the test holds
+abbrev pub unless : {A : Type 0} → Bool → ℕ → Outcome A → Outcome A
+unless b n o = cond b o (refused n)
 
 -- the refusal's number, 0 for none
 abbrev pub refusal : {A : Type 0} → Outcome A → ℕ

@@ -3,9 +3,10 @@ pub mod order;
 pub mod reader;
 
 ghost use mathlib.Core.Path.{_≡_};
+ghost use mathlib.Core.Bool.{true};
 ghost use Prim.Native.Nat.{_+_, _≤_, _<_};
 ghost use lib.ListN.{length};
-ghost use Rattle.records.specs.Records.{two, record-at};
+ghost use Rattle.records.specs.Records.{two, record-at, all-bytes};
 ghost use Rattle.records.specs.Wanted.{wanted-at};
 ghost use Rattle.records.specs.Answers.{number-of};
 
@@ -69,6 +70,11 @@ pub fn number(x: Refusal) -> u32
         Refusal::ShortList => 14,
     }
 }
+
+// What a slice holds are bytes. It does nothing: whoever calls it may say so in a contract.
+pub fn all_bytes(s: &[u8])
+    ensures { λ _. ⌜ all-bytes (now (s .entry)) ≡ true ⌝ }
+{}
 
 fn low(x: u8) -> u16
     ensures { λ r. ⌜ (r ≡ x) × (r < 256) ⌝ }

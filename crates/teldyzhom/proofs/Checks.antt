@@ -1,29 +1,26 @@
 -- What the check answers, from the answers of the functions that it calls; and what accepted means.
-use mathlib.Core.Path.{_≡_, refl, sym, ap, subst, _∙_}
-use mathlib.Core.Bool.{Bool, true, false, _||_, not}
+use mathlib.Core.Path.{_≡_, refl, sym, ap, _∙_}
+use mathlib.Core.Bool.{true, false}
 use mathlib.Core.List.{List}
 use Prim.Native.Nat.{ℕ, _%_, _≤_, _<_}
 use native.Mathlib.Omega.{arith}
-use lib.Dec.{ltb, eqb}
+use lib.Dec.{ltb}
 use lib.ListN.{length}
 use borrow.Author.Tests.{lt-ltb, le-ltb, eq-eqb, ne-eqb}
-use Rattle.rewriting.specs.Terms.{System}
-use Rattle.rewriting.specs.Steps.{full}
-use Rattle.rewriting.specs.Chains.{Terminating, Chains-terminating}
-use Rattle.rewriting.proofs.Basics.{or-right, or-both-false}
+use Rattle.rewriting.proofs.Basics.{or-right}
 use Rattle.records.specs.declared.Refusal.{Refusal}
 use Rattle.records.specs.declared.Answer.{Answer}
 use Rattle.records.specs.declared.Answer.the-variants.{Passed, Refused}
 use Rattle.records.specs.Outcomes.{Outcome, refused, passed, refusal}
-use Rattle.records.specs.Records.{length-bad}
-use Rattle.records.specs.Answers.{number-of, outcome-of}
+use Rattle.records.specs.Records.{length-bad, all-bytes}
+use Rattle.records.specs.Answers.{number-of, answer-outcome}
+use Rattle.records.proofs.Outcomes.{number-some}
 use Rattle.pack_reader.specs.declared.Counts.{Counts}
-use Rattle.packs.specs.Reading as packs
-use Rattle.packs.specs.Reading.{read-pack, pack-in}
-use Rattle.pack_reader.specs.Stored.{Stored}
+use Rattle.packs.specs.PackReading as packs
+use Rattle.packs.specs.PackReading.{read-pack}
 use Rattle.certificates.specs.Components.{Component}
-use Rattle.certificates.specs.Reading as certificates
-use Rattle.certificates.specs.Reading.{read-certificate}
+use Rattle.certificates.specs.CertificateReading as certificates
+use Rattle.certificates.specs.CertificateReading.{read-certificate}
 use Rattle.certificate_reader.specs.Working.{Certificate-read}
 use Rattle.judging.specs.Judge.{judged, plain}
 use Rattle.judging.specs.Check.{check}
@@ -31,51 +28,63 @@ use Rattle.partition.specs.Working.{Judgeable}
 use Rattle.checker.specs.Working.{Judged-as}
 use Rattle.judging.proofs.Checking.{check-cut, check-of-read, pack-first, then-certificate}
 use Rattle.promises.specs.Promises
-use Rattle.promises.proofs.Kept.{accepted-terminates}
+use Rattle.promises.proofs.Kept.{accepted-exactly, accepted-terminates}
 use Rattle.teldyzhom.specs.declared.Checked.{Checked}
 use Rattle.teldyzhom.specs.declared.Checked.the-variants.{Accepted, Refused as NotAccepted}
-use Rattle.teldyzhom.specs.Entries.{checked-number}
+use Rattle.teldyzhom.specs.Entries.{checked-number, Accepting}
 use Rattle.teldyzhom.proofs.Entering.{Kept-as}
 
--- THE TWO CLAUSES of the contract
-unfoldable pub Meets : (bs ds : List ℕ) → Checked → Type 0
-Meets bs ds r =
-    (checked-number r ≡ check bs ds) × (r ≡ Accepted → Chains-terminating (pack-in bs) full × Terminating (pack-in bs) full)
+-- WHAT ACCEPTING MEANS, in whatever words it is said
+pub accepting : (A : Type 0) (bs ds : List ℕ) → all-bytes bs ≡ true → all-bytes ds ≡ true → (A → check bs ds ≡ 0) → (check bs ds ≡ 0 → A) → Accepting A bs ds
+unfolding Promises.Accepted-exactly Promises.Accepted-terminates
+accepting A bs ds b d to from =
+    record {
+      certified = λ a. accepted-exactly bs ds b d .0 (to a);
+      no-other = λ c. from (accepted-exactly bs ds b d .1 c);
+      chains-end = λ a. accepted-terminates bs ds (to a) .0;
+      derivations-end = λ a. accepted-terminates bs ds (to a) .1;
+    }
 
-pub meets-refused : (bs ds : List ℕ) (x : Refusal) → check bs ds ≡ number-of x → Meets bs ds (NotAccepted x)
-unfolding Meets
-meets-refused bs ds x e = (sym e, λ h. absurd (let z : _≡_ {A = ℕ} 0 1 = cc in omega arith))
+pub accepting-by : (A B : Type 0) (bs ds : List ℕ) → (B → A) → (A → B) → Accepting A bs ds → Accepting B bs ds
+accepting-by A B bs ds to from a =
+    record {
+      certified = λ b. a .certified (to b);
+      no-other = λ c. from (a .no-other c);
+      chains-end = λ b. a .chains-end (to b);
+      derivations-end = λ b. a .derivations-end (to b);
+    }
 
-pub meets-accepted : (bs ds : List ℕ) → check bs ds ≡ 0 → Meets bs ds Accepted
-unfolding Meets Promises.Accepted-terminates
-meets-accepted bs ds e = (sym e, λ h. accepted-terminates bs ds e)
+-- 0 is accepted and no refusal
+pub is-accepted : (r : Checked) → checked-number r ≡ 0 → r ≡ Accepted
+is-accepted Accepted e = refl
+is-accepted (NotAccepted x) e = absurd (omega (arith, number-some x))
 
 -- THE LENGTH of the certificate
 pub too-long : (bs ds : List ℕ) → 24576 < length ds → check bs ds ≡ 1
 unfolding length-bad
-too-long bs ds h = check-cut bs ds (or-right (length-bad packs.most-bytes bs) (rw (lt-ltb 24576 (length ds) h)))
+too-long bs ds h = check-cut bs ds (or-right (length-bad packs.most-pack-bytes bs) (rw (lt-ltb 24576 (length ds) h)))
 
 pub no-multiple : (bs ds : List ℕ) → (length ds % 8 ≡ 0 → ⊥) → check bs ds ≡ 1
 unfolding length-bad
-no-multiple bs ds h = check-cut bs ds (or-right (length-bad packs.most-bytes bs) (or-right (ltb 24576 (length ds)) (rw (ne-eqb (length ds % 8) 0 h))))
+no-multiple bs ds h = check-cut bs ds (or-right (length-bad packs.most-pack-bytes bs) (or-right (ltb 24576 (length ds)) (rw (ne-eqb (length ds % 8) 0 h))))
 
-pub length-good : (ds : List ℕ) → length ds ≤ 24576 → length ds % 8 ≡ 0 → length-bad certificates.most-bytes ds ≡ false
+pub length-good : (ds : List ℕ) → length ds ≤ 24576 → length ds % 8 ≡ 0 → length-bad certificates.most-certificate-bytes ds ≡ false
 unfolding length-bad
 length-good ds h k = rw (le-ltb 24576 (length ds) h, eq-eqb (length ds % 8) 0 k)
 
 -- THE PACK refused
-pub pack-stops : (bs ds : List ℕ) (x : Refusal) → length-bad certificates.most-bytes ds ≡ false → read-pack bs ≡ refused (number-of x) → check bs ds ≡ number-of x
+pub pack-stops : (bs ds : List ℕ) (x : Refusal) → length-bad certificates.most-certificate-bytes ds ≡ false → read-pack bs ≡ refused (number-of x) → check bs ds ≡ number-of x
 pack-stops bs ds x k e = pack-first bs ds (number-of x) k e
 
 -- THE CERTIFICATE
 pub certificate-refused : (o : Outcome (List Component)) (r : Answer) (x : Refusal) → Certificate-read o r → r ≡ Refused x → o ≡ refused (number-of x)
 unfolding Certificate-read
 certificate-refused (refused n) r x a h =
-    let e : _≡_ {A = Outcome ℕ} (refused (number-of x)) (refused n) = sym (ap outcome-of h) ∙ a in
+    let e : _≡_ {A = Outcome ℕ} (refused (number-of x)) (refused n) = sym (ap answer-outcome h) ∙ a in
     let same : n ≡ number-of x = cc in
     ap refused same
 certificate-refused (passed cs) r x a h =
-    let e : _≡_ {A = Outcome ℕ} (refused (number-of x)) (passed (length cs)) = sym (ap outcome-of h) ∙ a in
+    let e : _≡_ {A = Outcome ℕ} (refused (number-of x)) (passed (length cs)) = sym (ap answer-outcome h) ∙ a in
     absurd (let z : _≡_ {A = ℕ} 0 1 = cc in omega arith)
 
 pub record Found-as (o : Outcome (List Component)) (components : ℕ) : Type 0 where
@@ -86,10 +95,10 @@ pub record Found-as (o : Outcome (List Component)) (components : ℕ) : Type 0 w
 pub certificate-found : (o : Outcome (List Component)) (r : Answer) (n : ℕ) → Certificate-read o r → r ≡ Passed n → Found-as o n
 unfolding Certificate-read
 certificate-found (refused m) r n a h =
-    let e : passed n ≡ refused m = sym (ap outcome-of h) ∙ a in
+    let e : passed n ≡ refused m = sym (ap answer-outcome h) ∙ a in
     absurd (let z : _≡_ {A = ℕ} 0 1 = cc in omega arith)
 certificate-found (passed cs) r n a h =
-    let e : passed n ≡ passed (length cs) = sym (ap outcome-of h) ∙ a in
+    let e : passed n ≡ passed (length cs) = sym (ap answer-outcome h) ∙ a in
     record { all = cs; is = refl; counted = cc }
 
 module _ (bs ds : List ℕ) (c : Counts) (ar ss ns ms : List ℕ) (k : Kept-as (read-pack bs) c ar ss ns ms) where
@@ -105,8 +114,8 @@ module _ (bs ds : List ℕ) (c : Counts) (ar ss ns ms : List ℕ) (k : Kept-as (
 
     pub judge-stops : (a : Answer) (x : Refusal) → Judged-as (judged (k .system) (plain (k .system)) (w .all)) a → a ≡ Refused x → check bs ds ≡ number-of x
     unfolding Judged-as
-    judge-stops a x h e = check-is ∙ sym h ∙ ap (λ (y : Answer). refusal (outcome-of y)) e
+    judge-stops a x h e = check-is ∙ sym h ∙ ap (λ (y : Answer). refusal (answer-outcome y)) e
 
     pub judge-passes : (a : Answer) (n : ℕ) → Judged-as (judged (k .system) (plain (k .system)) (w .all)) a → a ≡ Passed n → check bs ds ≡ 0
     unfolding Judged-as
-    judge-passes a n h e = check-is ∙ sym h ∙ ap (λ (y : Answer). refusal (outcome-of y)) e
+    judge-passes a n h e = check-is ∙ sym h ∙ ap (λ (y : Answer). refusal (answer-outcome y)) e

@@ -1,7 +1,7 @@
 -- What the readers' answers tell, and the entries' answers from them.
 use mathlib.Core.Path.{_≡_, refl, sym, ap, subst, _∙_}
 use mathlib.Core.Bool.{Bool, true, false, cond}
-use mathlib.Core.List.{List, [], _++_}
+use mathlib.Core.List.{List, _++_}
 use Prim.Native.Nat.{ℕ, _+_, _*_, _/_, _≤_, _<_}
 use native.Mathlib.Omega.{arith}
 use lib.ListN.{length, getD, drop}
@@ -14,17 +14,17 @@ use Rattle.records.specs.declared.Refusal.the-variants.{ShortList}
 use Rattle.records.specs.declared.Answer.{Answer}
 use Rattle.records.specs.declared.Answer.the-variants.{Passed, Refused}
 use Rattle.records.specs.Outcomes.{Outcome, refused, passed}
-use Rattle.records.specs.Answers.{number-of, outcome-of}
+use Rattle.records.specs.Answers.{number-of, answer-outcome}
 use Rattle.pack_reader.specs.declared.Counts.{Counts}
 use Rattle.pack_reader.specs.declared.PackRead.{PackRead}
 use Rattle.pack_reader.specs.declared.PackRead.the-variants.{Read, Refused as PackRefused}
-use Rattle.packs.specs.Reading.{read-pack}
+use Rattle.packs.specs.PackReading.{read-pack}
 use Rattle.pack_reader.specs.Stored.{Stored, Pack-read}
 use Rattle.pairs.specs.declared.ArcAnswer.the-variants.{Yes, No, Refused as ArcRefused}
 use Rattle.pairs.specs.Listing.{a-pair, pairs, pair-bytes}
 use Rattle.pairs.specs.Arcs.{arc}
 use Rattle.pairs.specs.Answers.{listing, buffer-after, arc-question}
-use Rattle.pairs.specs.Says.{counted, Listed-as, Arc-as}
+use Rattle.pairs.specs.Says.{count-outcome, Listed-as, Arc-as}
 use Rattle.pair_finder.specs.Walking.{first-pairs, Arc-asked, Place-answer}
 use Rattle.pair_finder.proofs.FromStore.{arc-any-place, stored-pairs}
 
@@ -64,7 +64,7 @@ unfoldable pub Lists : (bs o : List ℕ) → Answer → (now : List ℕ) → Typ
 Lists bs o r z = Listed-as (listing bs (length o)) r × (z ≡ buffer-after (listing bs (length o)) o)
 
 pub lists-refused : (bs o : List ℕ) (x : Refusal) → read-pack bs ≡ refused (number-of x) → Lists bs o (Refused x) o
-unfolding Lists Listed-as counted listing buffer-after
+unfolding Lists Listed-as count-outcome listing buffer-after
 lists-refused bs o x e = rw e (refl, refl)
 
 module _ (bs : List ℕ) (c : Counts) (ar ss ns ms : List ℕ) (k : Kept-as (read-pack bs) c ar ss ns ms) (o : List ℕ) (n : ℕ) (count : n ≡ length (first-pairs ss ns ms (c .rules))) where
@@ -72,7 +72,7 @@ module _ (bs : List ℕ) (c : Counts) (ar ss ns ms : List ℕ) (k : Kept-as (rea
   count-is = count ∙ ap length (stored-pairs _ _ _ _ _ _ _ (k .stored))
 
   pub lists-short : length o / 8 < n → Lists bs o (Refused ShortList) o
-  unfolding Lists Listed-as counted listing buffer-after
+  unfolding Lists Listed-as count-outcome listing buffer-after
   lists-short h = rw (k .is, lt-leb (8 * length (pairs (k .system))) (length o) (omega (arith, count-is))) (refl, refl)
 
   pub room-enough : n ≤ length o / 8 → 8 * length (first-pairs ss ns ms (c .rules)) ≤ length o
@@ -80,7 +80,7 @@ module _ (bs : List ℕ) (c : Counts) (ar ss ns ms : List ℕ) (k : Kept-as (rea
 
   pub lists-all : n ≤ length o / 8 → (z : List ℕ) →
       z ≡ pair-bytes (first-pairs ss ns ms (c .rules)) ++ drop (8 * length (first-pairs ss ns ms (c .rules))) o → Lists bs o (Passed n) z
-  unfolding Lists Listed-as counted listing buffer-after
+  unfolding Lists Listed-as count-outcome listing buffer-after
   lists-all h z e =
       rw (k .is, le-leb (8 * length (pairs (k .system))) (length o) (omega (arith, count-is)), count-is, e, stored-pairs _ _ _ _ _ _ _ (k .stored)) (refl, refl)
 
@@ -102,11 +102,11 @@ found false n m h = absurd (let z : _≡_ {A = ℕ} 0 1 = cc in omega arith)
 module _ (p : System) (ss : List ℕ) (i k : ℕ) (a : Answer) (says : Place-answer p ss i k a) where
   pub no-pair : (x : Refusal) → a ≡ Refused x → (is-pair p (a-pair i k) ≡ false) × (number-of x ≡ 7)
   unfolding Place-answer
-  no-pair x e = not-found _ _ x (sym (ap outcome-of e) ∙ says)
+  no-pair x e = not-found _ _ x (sym (ap answer-outcome e) ∙ says)
 
   pub pair-at : (m : ℕ) → a ≡ Passed m → (is-pair p (a-pair i k) ≡ true) × (m ≡ getD ss (2 * i + 1) 0 + k)
   unfolding Place-answer
-  pair-at m e = found _ _ m (sym (ap outcome-of e) ∙ says)
+  pair-at m e = found _ _ m (sym (ap answer-outcome e) ∙ says)
 
 -- a pair is one of a rule that there is
 pair-rule : (p : System) (q : Pair) → is-pair p q ≡ true → q .at-rule < length (p .rules)

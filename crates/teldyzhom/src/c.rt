@@ -6,9 +6,9 @@ ghost use mathlib.Core.Path.{_≡_};
 ghost use lib.ListN.{length};
 ghost use Rattle.records.specs.Outcomes.{refusal};
 ghost use Rattle.pairs.specs.Listing.{a-pair};
-ghost use Rattle.pairs.specs.Answers.{listing, arc-question, buffer-after, count-given};
+ghost use Rattle.pairs.specs.Answers.{listing, arc-question, buffer-after, list-value};
 ghost use Rattle.judging.specs.Check.{check};
-ghost use Rattle.teldyzhom.specs.Entries.{yes-value};
+ghost use Rattle.teldyzhom.specs.Entries.{Accepting, arc-value};
 
 // A refusal's number and 0, or 0 and a value.
 #[repr(C)]
@@ -17,10 +17,11 @@ pub struct Reply {
     pub value: u32,
 }
 
-// 0 for accepted, or the refusal's number.
+// 0 for accepted, with all that it means, or the refusal's number.
 #[no_mangle]
 pub extern "C" fn teldyzhom_check(pack: &[u8], certificate: &[u8]) -> u32
-    ensures { λ r. ⌜ r ≡ check (now (pack .entry)) (now (certificate .entry)) ⌝ }
+    ensures says { λ r. ⌜ r ≡ check (now (pack .entry)) (now (certificate .entry)) ⌝ }
+    ensures means { λ r. ⌜ Accepting (r ≡ 0) (now (pack .entry)) (now (certificate .entry)) ⌝ }
 {
     match crate::check_certificate(pack, certificate) {
         Checked::Accepted => 0,
@@ -32,7 +33,7 @@ pub extern "C" fn teldyzhom_check(pack: &[u8], certificate: &[u8]) -> u32
 #[no_mangle]
 pub extern "C" fn teldyzhom_list(pack: &[u8], list: &mut [u8]) -> Reply
     ensures number { λ r. ⌜ r .number ≡ refusal (listing (now (pack .entry)) (length (now (list .entry)))) ⌝ }
-    ensures value { λ r. ⌜ r .value ≡ count-given (listing (now (pack .entry)) (length (now (list .entry)))) ⌝ }
+    ensures value { λ r. ⌜ r .value ≡ list-value (listing (now (pack .entry)) (length (now (list .entry)))) ⌝ }
     ensures leaves { λ _. ⌜ now (list .exit) ≡ buffer-after (listing (now (pack .entry)) (length (now (list .entry)))) (now (list .entry)) ⌝ }
 {
     match crate::list_pairs(pack, list) {
@@ -57,7 +58,7 @@ pub extern "C" fn teldyzhom_arc(
     other_place: u32,
 ) -> Reply
     ensures number { λ r. ⌜ r .number ≡ refusal (arc-question (now (pack .entry)) (a-pair rule place) (a-pair «other_rule» «other_place»)) ⌝ }
-    ensures value { λ r. ⌜ r .value ≡ yes-value (arc-question (now (pack .entry)) (a-pair rule place) (a-pair «other_rule» «other_place»)) ⌝ }
+    ensures value { λ r. ⌜ r .value ≡ arc-value (arc-question (now (pack .entry)) (a-pair rule place) (a-pair «other_rule» «other_place»)) ⌝ }
 {
     match crate::arc_runs(pack, rule, place, other_rule, other_place) {
         ArcAnswer::Refused(x) => Reply {

@@ -20,7 +20,7 @@ use Rattle.pack_reader.proofs.Wanted.{found-at, stray-at}
 use Rattle.certificate_reader.specs.declared.State.{State}
 use Rattle.certificate_reader.specs.declared.Stepped.{Stepped}
 use Rattle.certificate_reader.specs.declared.Stepped.the-variants.{On}
-use Rattle.certificates.specs.Reading.{cert-step}
+use Rattle.certificates.specs.CertificateReading.{cert-step}
 use Rattle.certificate_reader.specs.Working.{Sound-state, Steps-as, Goes-on}
 use Rattle.certificate_reader.proofs.Mirrored.{start-sound}
 use Rattle.certificate_reader.proofs.Turns.{Told, told-nothing, told-refusal, told-next}

@@ -11,7 +11,7 @@ use Rattle.records.specs.declared.Answer.the-variants.{Passed, Refused}
 use Rattle.records.specs.declared.Refusal.{Refusal}
 use Rattle.records.specs.declared.Refusal.the-variants.{CutFile, StrayRecord, OutOfRange, BrokenSide, BareLeft, LooseVariable, NoSuchPair, PairCount, BackArc, SelfArc, Heavy, RuleRises, PairStays, ShortList}
 use Rattle.records.specs.Outcomes.{refusal}
-use Rattle.records.specs.Answers.{number-of, outcome-of}
+use Rattle.records.specs.Answers.{number-of, answer-outcome}
 use Rattle.pairs.specs.Listing.{pairs}
 use Rattle.certificates.specs.Components.{Component}
 use Rattle.judging.specs.Judge.{plain, all-pairs, each-once, back-arc, components-refusal, judged}
@@ -51,13 +51,13 @@ some-number ShortList = refl
 refused-stays : (p : System) (cs : List Component) (r : Answer) (x : Refusal) → r ≡ Refused x → Ordered-as p cs r → judged p (plain p) cs ≡ number-of x
 unfolding Ordered-as
 refused-stays p cs r x e h =
-    let n : ordered p cs ≡ number-of x = sym h ∙ ap (λ (a : Answer). refusal (outcome-of a)) e in
+    let n : ordered p cs ≡ number-of x = sym h ∙ ap (λ (a : Answer). refusal (answer-outcome a)) e in
     judged-then p cs ∙ rw (n, some-number x)
 
 passed-on : (p : System) (cs : List Component) (r : Answer) (n : ℕ) → r ≡ Passed n → Ordered-as p cs r → judged p (plain p) cs ≡ components-refusal p (plain p) cs
 unfolding Ordered-as
 passed-on p cs r n e h =
-    let z : ordered p cs ≡ 0 = sym h ∙ ap (λ (a : Answer). refusal (outcome-of a)) e in
+    let z : ordered p cs ≡ 0 = sym h ∙ ap (λ (a : Answer). refusal (answer-outcome a)) e in
     judged-then p cs ∙ rw z
 
 asked : tie.Need-judge-components-requires

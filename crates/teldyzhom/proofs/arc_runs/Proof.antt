@@ -6,7 +6,7 @@ use native.Mathlib.Omega.{arith}
 use borrow.Author.Needs.{needs}
 use lib.ListN.{getD}
 use Rattle.rewriting.specs.Pairs.{is-pair}
-use Rattle.packs.specs.Reading.{read-pack}
+use Rattle.packs.specs.PackReading.{read-pack}
 use Rattle.pairs.specs.Listing.{a-pair}
 use Rattle.pair_finder.proofs.FromStore.{stored-laid}
 use Rattle.teldyzhom.proofs.Entering.{Kept-as, pack-refused, pack-kept, arc-refused, no-pair, pair-at, first-missing, second-missing, may-ask, answers-yes, answers-no}

@@ -1,7 +1,7 @@
 -- `teldyzhom::list_pairs` meets its contract: the pack's answer first, then its pairs are counted and written.
 use native.Mathlib.Omega.{arith}
 use borrow.Author.Needs.{needs}
-use Rattle.packs.specs.Reading.{read-pack}
+use Rattle.packs.specs.PackReading.{read-pack}
 use Rattle.pair_finder.proofs.FromStore.{stored-laid}
 use Rattle.teldyzhom.proofs.Entering.{Kept-as, pack-refused, pack-kept, Lists, lists-refused, lists-short, room-enough, lists-all}
 use Rattle.teldyzhom.proofs.list_pairs.Statement.{statement}

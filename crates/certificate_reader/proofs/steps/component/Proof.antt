@@ -11,7 +11,7 @@ use Rattle.records.specs.declared.Record.{Record}
 use Rattle.records.specs.declared.Refusal.the-variants.{StrayRecord, OutOfRange}
 use Rattle.records.specs.Order.{index}
 use Rattle.certificate_reader.specs.declared.State.{State}
-use Rattle.certificates.specs.Reading.{Reading, components-of, component-read}
+use Rattle.certificates.specs.CertificateReading.{Certificate-reading, components-of, component-read}
 use Rattle.certificate_reader.specs.Working.{Mirrors}
 use Rattle.certificates.proofs.OneRecord.{counts-alone}
 use Rattle.certificate_reader.proofs.Mirrored.{no-state, after-component, stops, answers, component-mirrored}
@@ -50,7 +50,7 @@ module _ (c : tie.Joined3) where
   alone : r .b ≡ 0 → r .c ≤ 1
   alone z = ⊎-elim (λ w. w .2 .left) (λ w. absurd (w .left z)) (c .if3 .came)
 
-  no-stray : (x : Reading) → Mirrors s x → (eqb (r .one) 0 && eqb (r .a) (length (components-of x))) && not (eqb (r .b) 0 && ltb 1 (r .c)) ≡ true
+  no-stray : (x : Certificate-reading) → Mirrors s x → (eqb (r .one) 0 && eqb (r .a) (length (components-of x))) && not (eqb (r .b) 0 && ltb 1 (r .c)) ≡ true
   no-stray x m =
       let e = c .before .before in
       rw (eq-eqb _ _ (e .before .before .before .if1 .left), ← (m .number-is), eq-eqb _ _ (e .if2 .left), counts-alone (r .b) (r .c) alone)

@@ -16,7 +16,7 @@ use Rattle.records.specs.Order.{index}
 use Rattle.pack_reader.specs.Stored.{Stored}
 use Rattle.certificate_reader.specs.declared.State.{State}
 use Rattle.certificates.specs.Components.{Component, last-weighting}
-use Rattle.certificates.specs.Reading.{Reading, weight-of, weights-below, is-place, marked-read}
+use Rattle.certificates.specs.CertificateReading.{Certificate-reading, weights-below, is-place, marked-read}
 use Rattle.certificate_reader.specs.Working.{Tells, Mirrors}
 use Rattle.certificate_reader.proofs.FromStore.{marked-place-stored}
 use Rattle.certificate_reader.proofs.Mirrored.{no-state, after-weight, stops, answers, marked-told, marked-mirrored}
@@ -41,7 +41,7 @@ module _ (c : tie.After-key) where
   small : r .b < 65536
   small = omega arith
 
-  key-told : (x : Reading) (d : Component) → x .begun ≡ some d → Mirrors s x →
+  key-told : (x : Certificate-reading) (d : Component) → x .begun ≡ some d → Mirrors s x →
       weights-below (last-weighting (d .weightings) .marked) (r .a) (r .b) ≡ ltb (s .«marked_key») (c .key .result)
   unfolding weights-below Tells
   key-told x d is m = marked-told s x d is m (r .a) (r .b) small ∙ ap (ltb (s .«marked_key»)) (sym (c .key .ensures .0))
@@ -79,7 +79,7 @@ no-place c =
     )
 
 a-marked-weight : tie.Need-returns-4
-unfolding marked-read weight-of index
+unfolding marked-read index
 a-marked-weight c =
     let place = c .before in
     let k = keyed place in

@@ -13,7 +13,7 @@ use Rattle.records.specs.declared.Refusal.{Refusal}
 use Rattle.records.specs.declared.Refusal.the-variants.{StrayRecord}
 use Rattle.records.specs.declared.Answer.{Answer}
 use Rattle.records.specs.declared.Answer.the-variants.{Passed, Refused}
-use Rattle.records.specs.Answers.{number-of, outcome-of}
+use Rattle.records.specs.Answers.{number-of, answer-outcome}
 use Rattle.records.specs.Outcomes.{Outcome, refused, passed}
 use Rattle.records.specs.Order.{index}
 use Rattle.records.specs.Rising.{last-below}
@@ -22,27 +22,27 @@ use Rattle.pairs.specs.Listing.{a-pair}
 use Rattle.pair_finder.specs.Walking.{Place-answer}
 use Rattle.certificate_reader.specs.declared.State.{State}
 use Rattle.certificates.specs.Components.{Component}
-use Rattle.certificates.specs.Reading.{Reading, pair-read}
+use Rattle.certificates.specs.CertificateReading.{Certificate-reading, pair-read}
 use Rattle.certificate_reader.specs.Working.{Tells, Mirrors}
 use Rattle.certificate_reader.proofs.Mirrored.{no-state, after-pair, stops, stops-with, answers, pairs-told, pair-mirrored}
 use Rattle.certificate_reader.proofs.steps.pair.Statement.{statement}
 use Rattle.certificate_reader.proofs.steps.pair.Tie as tie
 
 -- what the answer on the pair's place tells of the pair
-module _ (is : Bool) (n : ℕ) (a : Answer) (e : outcome-of a ≡ cond is (passed n) (refused 7)) where
+module _ (is : Bool) (n : ℕ) (a : Answer) (e : answer-outcome a ≡ cond is (passed n) (refused 7)) where
   not-named : (y : Refusal) → a ≡ Refused y → (is ≡ false) × (number-of y ≡ 7)
   not-named y h = go is e
     where
-      go : (b : Bool) → outcome-of a ≡ cond b (passed n) (refused 7) → (b ≡ false) × (number-of y ≡ 7)
-      go true k = not-passed (sym (ap outcome-of h) ∙ k)
-      go false k = (refl, let same : _≡_ {A = Outcome ℕ} (refused (number-of y)) (refused 7) = sym (ap outcome-of h) ∙ k in cc)
+      go : (b : Bool) → answer-outcome a ≡ cond b (passed n) (refused 7) → (b ≡ false) × (number-of y ≡ 7)
+      go true k = not-passed (sym (ap answer-outcome h) ∙ k)
+      go false k = (refl, let same : _≡_ {A = Outcome ℕ} (refused (number-of y)) (refused 7) = sym (ap answer-outcome h) ∙ k in cc)
 
   named : (k : ℕ) → a ≡ Passed k → is ≡ true
   named k h = go is e
     where
-      go : (b : Bool) → outcome-of a ≡ cond b (passed n) (refused 7) → b ≡ true
+      go : (b : Bool) → answer-outcome a ≡ cond b (passed n) (refused 7) → b ≡ true
       go true _ = refl
-      go false l = not-passed (sym l ∙ ap outcome-of h)
+      go false l = not-passed (sym l ∙ ap answer-outcome h)
 
 one-not-zero : tie.Need-returns
 unfolding pair-read
@@ -69,7 +69,7 @@ module _ (c : tie.After-key) where
   small : r .b < 65536
   small = omega arith
 
-  key-told : (x : Reading) (d : Component) → x .begun ≡ some d → Mirrors s x →
+  key-told : (x : Certificate-reading) (d : Component) → x .begun ≡ some d → Mirrors s x →
       last-below (λ q. q .at-rule) (λ q. q .place) (d .pairs) (r .a) (r .b) ≡ ltb (s .«pair_key») (c .key .result)
   unfolding Tells
   key-told x d is m = pairs-told s x d is m (r .a) (r .b) small ∙ ap (ltb (s .«pair_key»)) (sym (c .key .ensures .0))

@@ -15,7 +15,7 @@ use Rattle.rewriting.specs.Terms.{System}
 use Rattle.records.specs.declared.Answer.{Answer}
 use Rattle.records.specs.declared.Answer.the-variants.{Passed, Refused}
 use Rattle.records.specs.declared.Refusal.{Refusal}
-use Rattle.records.specs.Answers.{number-of, outcome-of}
+use Rattle.records.specs.Answers.{number-of, answer-outcome}
 use Rattle.records.specs.Outcomes.{refused, passed}
 use Rattle.records.specs.Records.{all-records}
 use Rattle.certificates.specs.Components.{Component, no-component}
@@ -87,14 +87,14 @@ module _
       unfolding Component-judged
       refuses x e =
           let n = component-refusal p (plain p) component in
-          let is = answer-refused (eqb n 0) (at + record-count component) n (number-of x) (ap outcome-of (sym e) ∙ judged fits here) in
+          let is = answer-refused (eqb n 0) (at + record-count component) n (number-of x) (ap answer-outcome (sym e) ∙ judged fits here) in
           is .1 ∙ sym (number-here ∙ rw (is .0))
 
       passes : (next : ℕ) → r ≡ Passed next → Components-left p cert (a .all) next (i + 1)
       unfolding Component-judged here
       passes next e =
           let n = component-refusal p (plain p) component in
-          let is = answer-passed (eqb n 0) (at + record-count component) n next (ap outcome-of (sym e) ∙ judged fits here) in
+          let is = answer-passed (eqb n 0) (at + record-count component) n next (ap answer-outcome (sym e) ∙ judged fits here) in
           rw (is .1, add-one)
           (record { are = next-component cert at component here; number = number-here ∙ rw (is .0) })
 
@@ -103,7 +103,7 @@ module _
       unfolding Component-judged Known-after
       passes-known before after begins next e =
           let n = component-refusal p (plain p) component in
-          let is = answer-passed (eqb n 0) (at + record-count component) n next (ap outcome-of (sym e) ∙ judged fits here) in
+          let is = answer-passed (eqb n 0) (at + record-count component) n next (ap answer-outcome (sym e) ∙ judged fits here) in
           rw (is .1, begins component here) (after (eqb-true n 0 (is .0)))
 
 abbrev start : tie.At-loop Inv-loop μ-loop → tie.Start Inv-loop μ-loop

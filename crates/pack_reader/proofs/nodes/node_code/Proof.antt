@@ -1,7 +1,7 @@
 -- `pack_reader::nodes::node_code` meets its contract, test by test.
 use borrow.Author.Needs.{needs}
 use Rattle.terms.specs.Kept.{code}
-use Rattle.packs.specs.Reading.{node-zeros, node-of}
+use Rattle.packs.specs.PackReading.{node-zeros, node-of}
 use Rattle.pack_reader.specs.Stored.{node-outcome, coded}
 use Rattle.pack_reader.proofs.Tests.{tests}
 use Rattle.pack_reader.proofs.nodes.node_code.Statement.{statement}

@@ -14,7 +14,7 @@ use Rattle.records.specs.declared.Record.{Record}
 use Rattle.records.specs.declared.Answer.{Answer}
 use Rattle.records.specs.declared.Answer.the-variants.{Passed}
 use Rattle.records.specs.declared.Wanted.the-variants.{Found, Stray}
-use Rattle.records.specs.Answers.{outcome-of}
+use Rattle.records.specs.Answers.{answer-outcome}
 use Rattle.records.specs.Outcomes.{Outcome, refused, passed, after}
 use Rattle.records.specs.Records.{record-at, all-records}
 use Rattle.records.specs.Order.{index, may-follow}
@@ -104,7 +104,7 @@ module _ (pack : List ℕ) (from count symbols base : ℕ) (before : List ℕ) w
 
   module _ (now : List ℕ) (last j : ℕ) (s : So-far pack from count symbols base before now last j) (same : length now ≡ length before) where
     -- a refusal met here is the answer
-    refuses : {m : ℕ} (x : Answer) → outcome-of x ≡ refused m → steps-left pack from count symbols last j ≡ refused m
+    refuses : {m : ℕ} (x : Answer) → answer-outcome x ≡ refused m → steps-left pack from count symbols last j ≡ refused m
         → Nodes-read (node-steps symbols 2 count (drop from (all-records pack))) x base before now
     unfolding Nodes-read
     refuses x a e = rw (← (s .goes-on), e) (a, same, s .untouched)
@@ -159,7 +159,7 @@ read c =
     let t = w .before .before .before .before in
     let l = t .before .before .loop in
     node-read _ _ _ _ (l .last) (l .j) (t .before .loop-test .taken) (t .if1 .left) (found w) (l .inv .1) (omega arith)
-    (sym (ap outcome-of (c .before .code .given .1)) ∙ c .before .before .before .node-code .ensures)
+    (sym (ap answer-outcome (c .before .code .given .1)) ∙ c .before .before .before .node-code .ensures)
 
 file-end : tie.Need-returns Inv-loop μ-loop
 file-end c =
@@ -179,7 +179,7 @@ bad-node c =
     let l = t .before .before .loop in
     refuses _ _ _ _ _ _ _ (l .last) (l .j) (l .inv .3) (l .inv .2) _ refl
     (node-refused _ _ _ _ (l .last) (l .j) (t .before .loop-test .taken) (t .if1 .left) (found w)
-    (sym (ap outcome-of (c .before .x .given .1)) ∙ c .before .before .before .node-code .ensures))
+    (sym (ap answer-outcome (c .before .x .given .1)) ∙ c .before .before .before .node-code .ensures))
 
 again : tie.Need-loop-again Inv-loop μ-loop
 again c =

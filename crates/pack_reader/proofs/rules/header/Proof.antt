@@ -1,6 +1,6 @@
 -- `pack_reader::rules::header` meets its contract, test by test.
 use borrow.Author.Needs.{needs}
-use Rattle.packs.specs.Reading.{side-count}
+use Rattle.packs.specs.PackReading.{side-count}
 use Rattle.pack_reader.specs.Stored.{rule-header}
 use Rattle.pack_reader.proofs.Tests.{tests}
 use Rattle.pack_reader.proofs.rules.header.Statement.{statement}

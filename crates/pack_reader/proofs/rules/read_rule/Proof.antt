@@ -10,7 +10,7 @@ use Rattle.records.specs.declared.Record.{Record}
 use Rattle.records.specs.declared.Answer.{Answer}
 use Rattle.records.specs.declared.Answer.the-variants.{Passed, Refused}
 use Rattle.records.specs.declared.Refusal.{Refusal}
-use Rattle.records.specs.Answers.{outcome-of}
+use Rattle.records.specs.Answers.{answer-outcome}
 use Rattle.records.specs.Outcomes.{Outcome, refused, passed, after}
 use Rattle.records.specs.Records.{all-records}
 use Rattle.records.proofs.Outcomes.{not-passed, passed-same}
@@ -25,8 +25,8 @@ use Rattle.pack_reader.proofs.rules.read_rule.Tie as tie
 nodes-refused : (o : Outcome Run) {a : Answer} (x : Refusal) (l base : ℕ) (ar before now : List ℕ) → a ≡ Refused x → Nodes-read o a base before now
     → Rule-read o l ar (Refused x) base before now
 unfolding Nodes-read Rule-read
-nodes-refused (refused n) x l base ar before now e h = (ap outcome-of (sym e) ∙ h .0, h .1, h .2)
-nodes-refused (passed y) x l base ar before now e h = not-passed (ap outcome-of (sym e) ∙ h .0)
+nodes-refused (refused n) x l base ar before now e h = (ap answer-outcome (sym e) ∙ h .0, h .1, h .2)
+nodes-refused (passed y) x l base ar before now e h = not-passed (ap answer-outcome (sym e) ∙ h .0)
 
 -- the nodes were read: their bytes are judged
 module _ (symbols b c base last : ℕ) (rs : List Record) (ar before now : List ℕ) where
@@ -43,13 +43,13 @@ module _ (symbols b c base last : ℕ) (rs : List Record) (ar before now : List 
       )
 
   nodes-judged : {a : Answer} (j x : Answer) (o : Outcome Run) → node-steps symbols 2 (b + c) rs ≡ o → a ≡ Passed last → Nodes-read o a base before now
-      → outcome-of j ≡ rule-judged ar (part now base (base + b)) (part now (base + b) (base + b + c)) → outcome-of x ≡ after (outcome-of j) (λ k. passed last)
+      → answer-outcome j ≡ rule-judged ar (part now base (base + b)) (part now (base + b) (base + b + c)) → answer-outcome x ≡ after (answer-outcome j) (λ k. passed last)
       → Rule-read o b ar x base before now
   unfolding Nodes-read Rule-read
-  nodes-judged j x (refused n) e is h judged told = not-passed (sym (h .0) ∙ ap outcome-of is)
+  nodes-judged j x (refused n) e is h judged told = not-passed (sym (h .0) ∙ ap answer-outcome is)
   nodes-judged j x (passed y) e is h judged told =
       let s = sides-kept y (nodes-told symbols 2 (b + c) rs y e .many) (h .3) in
-      let row : last ≡ y .last = passed-same (ap outcome-of (sym is) ∙ h .0) in
+      let row : last ≡ y .last = passed-same (ap answer-outcome (sym is) ∙ h .0) in
       (rw (← (s .0), ← (s .1), ← judged, ← row) told, h .1, h .2, h .3)
 
 refused-nodes : tie.Need-returns
@@ -61,7 +61,7 @@ refused-nodes c =
 judged : (c : tie.After-judge-rule) (x : Answer) → let l = c .before .before .before in
     let n = l .before .before .before .before in
     let a = n .before .before .before .before .before .args in
-    outcome-of x ≡ after (outcome-of (c .judge-rule .result)) (λ k. passed (l .last .given .0 .0))
+    answer-outcome x ≡ after (answer-outcome (c .judge-rule .result)) (λ k. passed (l .last .given .0 .0))
     → Rule-read (node-steps (a .symbols) 2 (a .b + a .c) (drop (a .from) (all-records (a .pack .now)))) (a .b) (a .arities .now) x (a .base) (a .nodes .now)
     (n .read-nodes .last .1 .1 .1 .1 .0)
 judged c x told =
@@ -75,13 +75,13 @@ refused-sides : tie.Need-returns-2
 refused-sides c =
     let j = c .before .before .before in
     judged j (Refused (c .before .x2 .given .0 .0))
-    (ap (λ (a : Answer). after (outcome-of a) (λ k. passed (j .before .before .before .last .given .0 .0))) (sym (c .before .x2 .given .1)))
+    (ap (λ (a : Answer). after (answer-outcome a) (λ k. passed (j .before .before .before .last .given .0 .0))) (sym (c .before .x2 .given .1)))
 
 passed-rule : tie.Need-returns-3
 passed-rule c =
     let j = c .before .before in
     let row = j .before .before .before .last .given .0 .0 in
-    judged j (Passed row) (ap (λ (a : Answer). after (outcome-of a) (λ k. passed row)) (sym (c .enum-told .given .1)))
+    judged j (Passed row) (ap (λ (a : Answer). after (answer-outcome a) (λ k. passed row)) (sym (c .enum-told .given .1)))
 
 pub read-rule-spec : {M : Type 1} → statement M
 read-rule-spec =

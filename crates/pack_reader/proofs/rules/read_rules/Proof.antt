@@ -13,7 +13,7 @@ use Rattle.rewriting.specs.Terms.{System, rule}
 use Rattle.records.specs.declared.Answer.{Answer}
 use Rattle.records.specs.declared.Answer.the-variants.{Passed}
 use Rattle.records.specs.declared.Wanted.the-variants.{Found, Stray}
-use Rattle.records.specs.Answers.{outcome-of}
+use Rattle.records.specs.Answers.{answer-outcome}
 use Rattle.records.specs.Outcomes.{Outcome, refused, passed}
 use Rattle.records.specs.Order.{may-follow}
 use Rattle.records.specs.Rows.{column-at}
@@ -32,7 +32,7 @@ Inv-loop pack symbols arities starts₀ nodes₀ n last₀ at₀ base₀ i₀ st
 abbrev μ-loop : tie.MeasureT-loop
 μ-loop pack symbols arities starts₀ nodes₀ n last₀ at₀ base₀ i₀ starts nodes last at base i = length pack / 8 - at
 
-refuses : (o : Outcome System) (ar : List ℕ) (x : Answer) (starts nodes : List ℕ) (n : ℕ) → outcome-of x ≡ refused n → o ≡ refused n → Rules-read o ar x starts nodes
+refuses : (o : Outcome System) (ar : List ℕ) (x : Answer) (starts nodes : List ℕ) (n : ℕ) → answer-outcome x ≡ refused n → o ≡ refused n → Rules-read o ar x starts nodes
 unfolding Rules-read
 refuses o ar x starts nodes n e h = rw h e
 
@@ -87,7 +87,7 @@ found c = sym (c .before .before .read-wanted .ensures) ∙ c .r .given .1
 head : (c : tie.After-enum-told2 Inv-loop μ-loop) → let h = c .before .before in
     rule-header (h .before .before .before .before .before .before .before .before .loop .i) (h .before .before .before .before .r .given .0 .0)
     ≡ passed (c .enum-told2 .given .0 .0)
-head c = sym (c .before .before .header .ensures) ∙ ap outcome-of (c .enum-told2 .given .1)
+head c = sym (c .before .before .header .ensures) ∙ ap answer-outcome (c .enum-told2 .given .1)
 
 told : (c : tie.After-enum-told2 Inv-loop μ-loop)
     → let h = c .before .before in
@@ -120,7 +120,7 @@ head-refused c =
     let pre = t .before .before .before .before .before .before .before .pre in
     refuses _ _ _ _ _ _ refl
     (header-refuses _ _ _ (omega arith) _ _ (l .last) (l .at) (l .base) (l .i) (l .inv .4) (t .loop-test .taken) (r .r .given .0 .0) (found r) (pre .1) _
-    (sym (h .header .ensures) ∙ ap outcome-of (c .before .x .given .1)))
+    (sym (h .header .ensures) ∙ ap answer-outcome (c .before .x .given .1)))
 
 rule-refused : tie.Need-returns-3 Inv-loop μ-loop
 rule-refused c =
@@ -132,7 +132,7 @@ rule-refused c =
     let pre = t .before .before .before .before .before .before .before .pre in
     refuses _ _ _ _ _ _ refl
     (rule-refuses _ _ _ (omega arith) _ _ (l .last) (l .at) (l .base) (l .i) (l .inv .4) (t .loop-test .taken) (r .r .given .0 .0) (found r) (pre .1) (pre .0 .2) _ (head e)
-    _ _ (n .read-rule .ensures) _ (ap outcome-of (c .before .x2 .given .1)))
+    _ _ (n .read-rule .ensures) _ (ap answer-outcome (c .before .x2 .given .1)))
 
 -- the bounds that a turn leaves
 turn : (c : tie.After-slice-known4 Inv-loop μ-loop)
@@ -165,7 +165,7 @@ again c =
       omega (arith, n .read-rule .kept),
       rw (k .keep-ends .ensures)
           (more _ _ _ (omega arith) _ _ (l .last) (l .at) (l .base) (l .i) (l .inv .4) (t .loop-test .taken) (r .r .given .0 .0) (found r) (pre .1) (pre .0 .2) _ (head e)
-          _ _ (n .read-rule .ensures) _ (ap outcome-of (w .row .given .1)) (omega arith)),
+          _ _ (n .read-rule .ensures) _ (ap answer-outcome (w .row .given .1)) (omega arith)),
     )
 
 pack-end : tie.Need-returns-4 Inv-loop μ-loop

@@ -13,13 +13,13 @@ use Rattle.records.specs.declared.Record.{Record}
 use Rattle.records.specs.declared.Answer.{Answer}
 use Rattle.records.specs.declared.Answer.the-variants.{Passed}
 use Rattle.records.specs.declared.Wanted.the-variants.{Found, Stray}
-use Rattle.records.specs.Answers.{outcome-of}
+use Rattle.records.specs.Answers.{answer-outcome}
 use Rattle.records.specs.Outcomes.{Outcome, refused, passed, after}
 use Rattle.records.specs.Records.{all-records}
 use Rattle.records.specs.Order.{S-symbol, index, may-follow}
 use Rattle.records.specs.Wanted.{wanted-at}
 use Rattle.records.proofs.Bytes.{drop-records, length-of-records}
-use Rattle.packs.specs.Reading.{most-symbols, most-arity}
+use Rattle.packs.specs.PackReading.{most-symbols, most-arity}
 use Rattle.pack_reader.specs.Stored.{arity-outcome, symbol-steps, Symbols-read}
 use Rattle.pack_reader.proofs.Wanted.{found-at, stray-at}
 use Rattle.pack_reader.proofs.SymbolSteps.{arity-small, symbols-stray, symbols-end, symbols-read, with-arities, arities-none, arities-more}
@@ -71,7 +71,7 @@ abbrev μ-loop : tie.MeasureT-loop
 
 module _ (pack arities : List ℕ) (last i : ℕ) (s : Goes-on pack arities last i) where
   -- a refusal met here is the answer
-  refuses : {m : ℕ} (x : Answer) → outcome-of x ≡ refused m → steps-left pack last i ≡ refused m
+  refuses : {m : ℕ} (x : Answer) → answer-outcome x ≡ refused m → steps-left pack last i ≡ refused m
       → Symbols-read (symbol-steps 0 0 (all-records pack)) x arities
   unfolding Symbols-read
   refuses x a e = rw (← s, e) a
@@ -102,7 +102,7 @@ found c = sym (c .before .before .before .read-wanted .ensures) ∙ c .before .r
 arity : (c : tie.After-known-told3 Inv-loop μ-loop)
     → let w = c .before .before .before .before .before .before in
     passed (c .before .b .given .0 .0) ≡ arity-outcome (w .before .before .before .before .before .loop .i) (w .before .r .given .0 .0)
-arity c = sym (ap outcome-of (c .before .b .given .1)) ∙ c .before .before .before .arity-of .ensures
+arity c = sym (ap answer-outcome (c .before .b .given .1)) ∙ c .before .before .before .arity-of .ensures
 
 small : (c : tie.After-known-told3 Inv-loop μ-loop)
     → (c .before .before .before .before .before .before .before .before .before .before .before .loop .i < most-symbols) × (c .before .b .given .0 .0 ≤ most-arity)
@@ -129,7 +129,7 @@ bad-arity c =
     let l = t .before .loop in
     refuses _ _ (l .last) (l .i) (l .inv .4) _ refl
     (arity-refused _ (l .last) (l .i) (t .loop-test .taken) (found w) (f .if1 .left)
-    (sym (ap outcome-of (c .before .x .given .1)) ∙ c .before .before .before .arity-of .ensures))
+    (sym (ap answer-outcome (c .before .x .given .1)) ∙ c .before .before .before .arity-of .ensures))
 
 again : tie.Need-loop-again Inv-loop μ-loop
 again c =

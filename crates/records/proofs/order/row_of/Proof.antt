@@ -1,14 +1,14 @@
 -- `records::order::row_of` meets its contract, row by row, bit by bit.
 use mathlib.Core.Path.{refl}
-use Rattle.records.specs.Order.{index, order, lets, may-follow}
+use Rattle.records.specs.Order.{index, entry, order, when-in, lets, may-follow}
 use Rattle.records.specs.Rows.{column-at, bit}
 use borrow.Author.Needs.{needs}
-use Rattle.records.proofs.Table.{sum-below, distance, misses, row-misses, row-says, last-row}
+use Rattle.records.proofs.Table.{sum-below, distance, misses, row-misses, row-says, tenth-row}
 use Rattle.records.proofs.order.row_of.Statement.{statement}
 use Rattle.records.proofs.order.row_of.Tie as tie
 
 pub row-of-spec : {M : Type 1} → statement M
-unfolding index order lets may-follow column-at bit sum-below distance misses row-misses
+unfolding index entry order when-in lets may-follow column-at bit sum-below distance misses row-misses
 row-of-spec =
     tie.close
     (tie.spec
@@ -32,4 +32,4 @@ row-of-spec =
     (λ c. row-says 7 (c .match .keys8) (refl, refl, refl) refl)
     (λ c. row-says 8 (c .before .match .keys9) (c .ever6 .ensures) refl)
     (λ c. row-says 9 (c .before .match .keys10) (c .ever7 .ensures) refl)
-    (λ c. row-says 10 (last-row _ (c .before .before .pre) (c .before .match .rest)) (c .ever8 .ensures) refl))
+    (λ c. row-says 10 (tenth-row _ (c .before .before .pre) (c .before .match .rest)) (c .ever8 .ensures) refl))
