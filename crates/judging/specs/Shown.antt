@@ -47,11 +47,12 @@ No-back-arc p cs =
 unfoldable pub No-self-arc : System → Component → Type 0
 No-self-arc p c = arc p (nth-pair c 0) (nth-pair c 0) ≡ false
 
--- 11 is not given: every node of the rules and of the pairs' sides is within the limit
+-- every node of the pairs' sides is within the limit
 pub record Pairs-within (p : System) (w : Weighting) (qs : List Pair) : Type 0 where
   pub lefts : (k : ℕ) → k < length qs → Side-within w (pair-left p (getD qs k (a-pair 0 0)))
   pub rights : (k : ℕ) → k < length qs → Side-within w (pair-right p (getD qs k (a-pair 0 0)))
 
+-- 11 is not given: these are, and every node of the rules
 unfoldable pub All-within : System → List Rule → Weighting → List Pair → Type 0
 All-within p rs w qs = Rules-within rs w × Pairs-within p w qs
 
