@@ -39,10 +39,10 @@ pub fn read_certificate(
     arities: &[u8],
     starts: &[u16],
     nodes: &[u8],
-    marks: &[u8],
+    defined: &[u8],
 ) -> Answer
-    requires { ⌜ (length (now certificate) % 8 ≡ 0) × (length (now certificate) ≤ 24576) × (symbols ≤ 64) × (length (now arities) ≡ 64) × Laid (now starts) (now nodes) rules × (length (now marks) ≡ 64) ⌝ }
-    ensures { λ r. ⌜ ((p : System) → Stored p symbols rules (now (arities .entry)) (now (starts .entry)) (now (nodes .entry)) (now (marks .entry)) → Certificate-read (read-certificate p (now (certificate .entry))) r) ⌝ }
+    requires { ⌜ (length (now certificate) % 8 ≡ 0) × (length (now certificate) ≤ 24576) × (symbols ≤ 64) × (length (now arities) ≡ 64) × Laid (now starts) (now nodes) rules × (length (now defined) ≡ 64) ⌝ }
+    ensures { λ r. ⌜ ((p : System) → Stored p symbols rules (now (arities .entry)) (now (starts .entry)) (now (nodes .entry)) (now (defined .entry)) → Certificate-read (read-certificate p (now (certificate .entry))) r) ⌝ }
 {
     let n = certificate.len() / 8;
     let mut s = State {
@@ -60,7 +60,7 @@ pub fn read_certificate(
         else {
             return Answer::Refused(Refusal::StrayRecord);
         };
-        match steps::step(r, s, symbols, rules, arities, starts, nodes, marks) {
+        match steps::step(r, s, symbols, rules, arities, starts, nodes, defined) {
             Stepped::Refused(x) => {
                 return Answer::Refused(x);
             }

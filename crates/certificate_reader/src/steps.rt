@@ -15,7 +15,7 @@ ghost use lib.ListN.{length, getD};
 ghost use Rattle.rewriting.specs.Terms.{System};
 ghost use Rattle.records.specs.Order.{index, may-follow};
 ghost use Rattle.pack_reader.specs.Stored.{Stored};
-ghost use Rattle.pair_finder.specs.Walking.{Laid, is-marked};
+ghost use Rattle.pair_finder.specs.Walking.{Laid, is-defined};
 ghost use Rattle.certificates.specs.Components.{Component};
 ghost use Rattle.certificates.specs.CertificateReading.{Certificate-reading, cert-step, component-read, pair-read, weight-read, marked-read};
 ghost use Rattle.certificate_reader.specs.Working.{key, Sound-state, Mirrors, Goes-on, Steps-as};
@@ -66,10 +66,10 @@ fn component(r: Record, s: State) -> Stepped
 }
 
 // P: a rule and a place, rising; 7 where they name no pair.
-fn pair(r: Record, s: State, rules: usize, starts: &[u16], nodes: &[u8], marks: &[u8]) -> Stepped
-    requires { ⌜ Laid (now starts) (now nodes) rules × (length (now marks) ≡ 64) × (1 ≤ s .due) ⌝ }
+fn pair(r: Record, s: State, rules: usize, starts: &[u16], nodes: &[u8], defined: &[u8]) -> Stepped
+    requires { ⌜ Laid (now starts) (now nodes) rules × (length (now defined) ≡ 64) × (1 ≤ s .due) ⌝ }
     ensures on { λ t. ⌜ Goes-on s t ⌝ }
-    ensures means { λ t. ⌜ ((p : System) (symbols : ℕ) (arities : List ℕ) (x : Certificate-reading) (c : Component) → Stored p symbols rules arities (now (starts .entry)) (now (nodes .entry)) (now (marks .entry)) → Mirrors s x → x .begun ≡ some c → r .kind ≡ 80 → Steps-as (pair-read p r x c) t) ⌝ }
+    ensures means { λ t. ⌜ ((p : System) (symbols : ℕ) (arities : List ℕ) (x : Certificate-reading) (c : Component) → Stored p symbols rules arities (now (starts .entry)) (now (nodes .entry)) (now (defined .entry)) → Mirrors s x → x .begun ≡ some c → r .kind ≡ 80 → Steps-as (pair-read p r x c) t) ⌝ }
 {
     if r.one != 0 {
         return Stepped::Refused(Refusal::StrayRecord);
@@ -81,7 +81,7 @@ fn pair(r: Record, s: State, rules: usize, starts: &[u16], nodes: &[u8], marks: 
     if k <= s.pair_key {
         return Stepped::Refused(Refusal::StrayRecord);
     }
-    match pair_finder::arcs::place_of(starts, nodes, marks, rules, r.a as usize, r.b as usize) {
+    match pair_finder::arcs::place_of(starts, nodes, defined, rules, r.a as usize, r.b as usize) {
         Answer::Refused(x) => Stepped::Refused(x),
         Answer::Passed(_) => Stepped::On(State {
             last: 7,
@@ -108,21 +108,21 @@ fn is_place(arities: &[u8], symbols: usize, f: Symbol, i: u16) -> bool
 }
 
 // The same of a tuple symbol, which a defined symbol has.
-fn is_marked_place(arities: &[u8], symbols: usize, marks: &[u8], f: Marked, i: u16) -> bool
-    requires { ⌜ (length (now arities) ≡ 64) × (length (now marks) ≡ 64) × (symbols ≤ 64) ⌝ }
-    ensures { λ r. ⌜ r ≡ ((ltb (f .0) symbols && leb i (getD (now (arities .entry)) (f .0) 0)) && is-marked (now (marks .entry)) (f .0)) ⌝ }
+fn is_marked_place(arities: &[u8], symbols: usize, defined: &[u8], f: Marked, i: u16) -> bool
+    requires { ⌜ (length (now arities) ≡ 64) × (length (now defined) ≡ 64) × (symbols ≤ 64) ⌝ }
+    ensures { λ r. ⌜ r ≡ ((ltb (f .0) symbols && leb i (getD (now (arities .entry)) (f .0) 0)) && is-defined (now (defined .entry)) (f .0)) ⌝ }
 {
     if !is_place(arities, symbols, Symbol(f.0), i) {
         return false;
     }
-    pair_finder::listing::is_marked(marks, f.0 as u8)
+    pair_finder::listing::is_defined(defined, f.0 as u8)
 }
 
 // W: a symbol, a place of it and the value there.
 fn weight(r: Record, s: State, symbols: usize, arities: &[u8]) -> Stepped
     requires { ⌜ (length (now arities) ≡ 64) × (symbols ≤ 64) × (s .weighted ≡ true) ⌝ }
     ensures on { λ t. ⌜ Goes-on s t ⌝ }
-    ensures means { λ t. ⌜ ((p : System) (rules : ℕ) (starts nodes marks : List ℕ) (x : Certificate-reading) (c : Component) → Stored p symbols rules (now (arities .entry)) starts nodes marks → Mirrors s x → x .begun ≡ some c → s .due ≡ 0 → r .kind ≡ 87 → Steps-as (weight-read p r x c) t) ⌝ }
+    ensures means { λ t. ⌜ ((p : System) (rules : ℕ) (starts nodes defined : List ℕ) (x : Certificate-reading) (c : Component) → Stored p symbols rules (now (arities .entry)) starts nodes defined → Mirrors s x → x .begun ≡ some c → s .due ≡ 0 → r .kind ≡ 87 → Steps-as (weight-read p r x c) t) ⌝ }
 {
     if r.one != 0 {
         return Stepped::Refused(Refusal::StrayRecord);
@@ -146,10 +146,10 @@ fn weight(r: Record, s: State, symbols: usize, arities: &[u8]) -> Stepped
 }
 
 // M: the same of a tuple symbol.
-fn marked(r: Record, s: State, symbols: usize, arities: &[u8], marks: &[u8]) -> Stepped
-    requires { ⌜ (length (now arities) ≡ 64) × (length (now marks) ≡ 64) × (symbols ≤ 64) × (s .weighted ≡ true) ⌝ }
+fn marked(r: Record, s: State, symbols: usize, arities: &[u8], defined: &[u8]) -> Stepped
+    requires { ⌜ (length (now arities) ≡ 64) × (length (now defined) ≡ 64) × (symbols ≤ 64) × (s .weighted ≡ true) ⌝ }
     ensures on { λ t. ⌜ Goes-on s t ⌝ }
-    ensures means { λ t. ⌜ ((p : System) (rules : ℕ) (starts nodes : List ℕ) (x : Certificate-reading) (c : Component) → Stored p symbols rules (now (arities .entry)) starts nodes (now (marks .entry)) → Mirrors s x → x .begun ≡ some c → s .due ≡ 0 → r .kind ≡ 77 → Steps-as (marked-read p r x c) t) ⌝ }
+    ensures means { λ t. ⌜ ((p : System) (rules : ℕ) (starts nodes : List ℕ) (x : Certificate-reading) (c : Component) → Stored p symbols rules (now (arities .entry)) starts nodes (now (defined .entry)) → Mirrors s x → x .begun ≡ some c → s .due ≡ 0 → r .kind ≡ 77 → Steps-as (marked-read p r x c) t) ⌝ }
 {
     if r.one != 0 {
         return Stepped::Refused(Refusal::StrayRecord);
@@ -158,7 +158,7 @@ fn marked(r: Record, s: State, symbols: usize, arities: &[u8], marks: &[u8]) -> 
     if k <= s.marked_key {
         return Stepped::Refused(Refusal::StrayRecord);
     }
-    if !is_marked_place(arities, symbols, marks, Marked(r.a), r.b) {
+    if !is_marked_place(arities, symbols, defined, Marked(r.a), r.b) {
         return Stepped::Refused(Refusal::OutOfRange);
     }
     Stepped::On(State {
@@ -181,20 +181,20 @@ pub fn step(
     arities: &[u8],
     starts: &[u16],
     nodes: &[u8],
-    marks: &[u8],
+    defined: &[u8],
 ) -> Stepped
-    requires { ⌜ (s .number < 65536) × (symbols ≤ 64) × (length (now arities) ≡ 64) × Laid (now starts) (now nodes) rules × (length (now marks) ≡ 64) × Sound-state s × (may-follow (s .last) (index (r .kind)) (s .due) (s .weighted) ≡ true) ⌝ }
+    requires { ⌜ (s .number < 65536) × (symbols ≤ 64) × (length (now arities) ≡ 64) × Laid (now starts) (now nodes) rules × (length (now defined) ≡ 64) × Sound-state s × (may-follow (s .last) (index (r .kind)) (s .due) (s .weighted) ≡ true) ⌝ }
     ensures on { λ t. ⌜ Goes-on s t ⌝ }
-    ensures means { λ t. ⌜ ((p : System) (x : Certificate-reading) → Stored p symbols rules (now (arities .entry)) (now (starts .entry)) (now (nodes .entry)) (now (marks .entry)) → Mirrors s x → Steps-as (cert-step p r x) t) ⌝ }
+    ensures means { λ t. ⌜ ((p : System) (x : Certificate-reading) → Stored p symbols rules (now (arities .entry)) (now (starts .entry)) (now (nodes .entry)) (now (defined .entry)) → Mirrors s x → Steps-as (cert-step p r x) t) ⌝ }
 {
     if r.kind == b'C' {
         return component(r, s);
     }
     if r.kind == b'P' {
-        return pair(r, s, rules, starts, nodes, marks);
+        return pair(r, s, rules, starts, nodes, defined);
     }
     if r.kind == b'W' {
         return weight(r, s, symbols, arities);
     }
-    marked(r, s, symbols, arities, marks)
+    marked(r, s, symbols, arities, defined)
 }

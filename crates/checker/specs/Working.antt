@@ -137,9 +137,9 @@ Known-after p c certificate at before table =
     component-refusal p (plain p) c ≡ 0 → Rules-known p certificate (at + record-count c) (last-weights c at before) table
 
 -- all components of a certificate that was read
-pub record Components-from (p : System) (certificate : List ℕ) (components rules : ℕ) (arities starts nodes marks : List ℕ) : Type 0 where
+pub record Components-from (p : System) (certificate : List ℕ) (components rules : ℕ) (arities starts nodes flags : List ℕ) : Type 0 where
   pub symbols : ℕ
-  pub stored : Stored p symbols rules arities starts nodes marks
+  pub stored : Stored p symbols rules arities starts nodes flags
   pub all : List Component
   pub counted : components ≡ length all
   pub are : all-records certificate ≡ component-records 0 all

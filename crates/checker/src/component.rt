@@ -66,11 +66,11 @@ fn judge_calls(
     table: &mut [u16; 1152],
     starts: &[u16],
     nodes: &[u8; 4096],
-    marks: &[u8],
+    defined: &[u8],
     rules: usize,
 ) -> Answer
-    requires { ⌜ (length (now certificate) % 8 ≡ 0) × (length (now certificate) ≤ 24576) × Kept-pack rules (now arities) (now starts) (now nodes) (now marks) × Marked-is (now table) [] × ((p : System) × (symbols : ℕ) × (qs : List Pair) × (ms : List Weight) × Stored p symbols rules (now arities) (now starts) (now nodes) (now marks) × All-pairs p qs × Pairs-at (now certificate) from qs × (length qs ≡ count) × Weights-at (now certificate) middle M-marked ms) ⌝ }
-    ensures { λ r. ⌜ Marked-is (now (table .exit)) [] × ((ws : List Weight) → Table-is (now (table .entry)) ws → Table-is (now (table .exit)) ws) × ((p : System) (symbols : ℕ) (qs : List Pair) (ws ms : List Weight) → Stored p symbols rules (now (arities .entry)) (now (starts .entry)) (now (nodes .entry)) (now (marks .entry)) → All-pairs p qs → Pairs-at (now (certificate .entry)) from qs → length qs ≡ count → Weights-at (now (certificate .entry)) middle M-marked ms → Table-is (now (table .entry)) ws → any (rule-over (record { weights = ws; marked = ms })) (p .rules) ≡ false → answer-outcome r ≡ chosen verdict (calls-verdict p qs ws ms) (middle + length ms)) ⌝ }
+    requires { ⌜ (length (now certificate) % 8 ≡ 0) × (length (now certificate) ≤ 24576) × Kept-pack rules (now arities) (now starts) (now nodes) (now defined) × Marked-is (now table) [] × ((p : System) × (symbols : ℕ) × (qs : List Pair) × (ms : List Weight) × Stored p symbols rules (now arities) (now starts) (now nodes) (now defined) × All-pairs p qs × Pairs-at (now certificate) from qs × (length qs ≡ count) × Weights-at (now certificate) middle M-marked ms) ⌝ }
+    ensures { λ r. ⌜ Marked-is (now (table .exit)) [] × ((ws : List Weight) → Table-is (now (table .entry)) ws → Table-is (now (table .exit)) ws) × ((p : System) (symbols : ℕ) (qs : List Pair) (ws ms : List Weight) → Stored p symbols rules (now (arities .entry)) (now (starts .entry)) (now (nodes .entry)) (now (defined .entry)) → All-pairs p qs → Pairs-at (now (certificate .entry)) from qs → length qs ≡ count → Weights-at (now (certificate .entry)) middle M-marked ms → Table-is (now (table .entry)) ws → any (rule-over (record { weights = ws; marked = ms })) (p .rules) ≡ false → answer-outcome r ≡ chosen verdict (calls-verdict p qs ws ms) (middle + length ms)) ⌝ }
 {
     let next = crate::weighing::fill(certificate, middle, b'M', table);
     let c = crate::weighing::judge_pairs(
@@ -81,7 +81,7 @@ fn judge_calls(
         table,
         starts,
         nodes,
-        marks,
+        defined,
         rules,
     );
     crate::weighing::clear(certificate, middle, b'M', table);
@@ -99,11 +99,11 @@ fn judge_marked(
     table: &mut [u16; 1152],
     starts: &[u16],
     nodes: &[u8; 4096],
-    marks: &[u8],
+    defined: &[u8],
     rules: usize,
 ) -> Answer
-    requires { ⌜ (length (now certificate) % 8 ≡ 0) × (length (now certificate) ≤ 24576) × Kept-pack rules (now arities) (now starts) (now nodes) (now marks) × Marked-is (now table) [] × ((p : System) × (symbols : ℕ) × (qs : List Pair) × (ms : List Weight) × Stored p symbols rules (now arities) (now starts) (now nodes) (now marks) × All-pairs p qs × Pairs-at (now certificate) from qs × (length qs ≡ count) × Weights-at (now certificate) middle M-marked ms) ⌝ }
-    ensures { λ r. ⌜ Marked-is (now (table .exit)) [] × ((ws : List Weight) → Table-is (now (table .entry)) ws → Table-is (now (table .exit)) ws) × ((p : System) (symbols : ℕ) (qs : List Pair) (ws ms : List Weight) → Stored p symbols rules (now (arities .entry)) (now (starts .entry)) (now (nodes .entry)) (now (marks .entry)) → All-pairs p qs → Pairs-at (now (certificate .entry)) from qs → length qs ≡ count → Weights-at (now (certificate .entry)) middle M-marked ms → Table-is (now (table .entry)) ws → ((verdict ≡ Verdict.Over → ⊥) → any (rule-over (record { weights = ws; marked = ms })) (p .rules) ≡ false) → answer-outcome r ≡ chosen verdict (calls-verdict p qs ws ms) (middle + length ms)) ⌝ }
+    requires { ⌜ (length (now certificate) % 8 ≡ 0) × (length (now certificate) ≤ 24576) × Kept-pack rules (now arities) (now starts) (now nodes) (now defined) × Marked-is (now table) [] × ((p : System) × (symbols : ℕ) × (qs : List Pair) × (ms : List Weight) × Stored p symbols rules (now arities) (now starts) (now nodes) (now defined) × All-pairs p qs × Pairs-at (now certificate) from qs × (length qs ≡ count) × Weights-at (now certificate) middle M-marked ms) ⌝ }
+    ensures { λ r. ⌜ Marked-is (now (table .exit)) [] × ((ws : List Weight) → Table-is (now (table .entry)) ws → Table-is (now (table .exit)) ws) × ((p : System) (symbols : ℕ) (qs : List Pair) (ws ms : List Weight) → Stored p symbols rules (now (arities .entry)) (now (starts .entry)) (now (nodes .entry)) (now (defined .entry)) → All-pairs p qs → Pairs-at (now (certificate .entry)) from qs → length qs ≡ count → Weights-at (now (certificate .entry)) middle M-marked ms → Table-is (now (table .entry)) ws → ((verdict ≡ Verdict.Over → ⊥) → any (rule-over (record { weights = ws; marked = ms })) (p .rules) ≡ false) → answer-outcome r ≡ chosen verdict (calls-verdict p qs ws ms) (middle + length ms)) ⌝ }
 {
     match verdict {
         Verdict::Over => Answer::Refused(Refusal::Heavy),
@@ -117,7 +117,7 @@ fn judge_marked(
             table,
             starts,
             nodes,
-            marks,
+            defined,
             rules,
         ),
         Verdict::Holds => judge_calls(
@@ -130,7 +130,7 @@ fn judge_marked(
             table,
             starts,
             nodes,
-            marks,
+            defined,
             rules,
         ),
     }
@@ -147,11 +147,11 @@ fn weighted(
     arities: &[u8; 64],
     starts: &[u16],
     nodes: &[u8; 4096],
-    marks: &[u8],
+    defined: &[u8],
     rules: usize,
 ) -> Answer
-    requires { ⌜ (length (now certificate) % 8 ≡ 0) × (length (now certificate) ≤ 24576) × Kept-pack rules (now arities) (now starts) (now nodes) (now marks) × Marked-is (now table) [] × ((p : System) × (symbols : ℕ) × (c : Component) × Stored p symbols rules (now arities) (now starts) (now nodes) (now marks) × Component-fits p c × Component-at (now certificate) at c × Rules-known p (now certificate) at before (now table) × (length (c .weightings) ≡ 1) × (length (c .pairs) ≡ count)) ⌝ }
-    ensures { λ r. ⌜ Marked-is (now (table .exit)) [] × ((p : System) (symbols : ℕ) (c : Component) → Stored p symbols rules (now (arities .entry)) (now (starts .entry)) (now (nodes .entry)) (now (marks .entry)) → Component-fits p c → Component-at (now (certificate .entry)) at c → Rules-known p (now (certificate .entry)) at before (now (table .entry)) → length (c .weightings) ≡ 1 → length (c .pairs) ≡ count → Component-judged p c at r × Known-after p c (now (certificate .entry)) at before (now (table .exit))) ⌝ }
+    requires { ⌜ (length (now certificate) % 8 ≡ 0) × (length (now certificate) ≤ 24576) × Kept-pack rules (now arities) (now starts) (now nodes) (now defined) × Marked-is (now table) [] × ((p : System) × (symbols : ℕ) × (c : Component) × Stored p symbols rules (now arities) (now starts) (now nodes) (now defined) × Component-fits p c × Component-at (now certificate) at c × Rules-known p (now certificate) at before (now table) × (length (c .weightings) ≡ 1) × (length (c .pairs) ≡ count)) ⌝ }
+    ensures { λ r. ⌜ Marked-is (now (table .exit)) [] × ((p : System) (symbols : ℕ) (c : Component) → Stored p symbols rules (now (arities .entry)) (now (starts .entry)) (now (nodes .entry)) (now (defined .entry)) → Component-fits p c → Component-at (now (certificate .entry)) at c → Rules-known p (now (certificate .entry)) at before (now (table .entry)) → length (c .weightings) ≡ 1 → length (c .pairs) ≡ count → Component-judged p c at r × Known-after p c (now (certificate .entry)) at before (now (table .exit))) ⌝ }
 {
     let from = at + 1 + count;
     let same = crate::weighing::same_weights(certificate, before, from);
@@ -166,12 +166,12 @@ fn weighted(
             table,
             starts,
             nodes,
-            marks,
+            defined,
             rules,
         );
     }
     let middle = refill(certificate, before, from, table);
-    let r = crate::weighing::judge_rules(arities, table, starts, nodes, marks, rules);
+    let r = crate::weighing::judge_rules(arities, table, starts, nodes, defined, rules);
     judge_marked(
         certificate,
         at + 1,
@@ -182,7 +182,7 @@ fn weighted(
         table,
         starts,
         nodes,
-        marks,
+        defined,
         rules,
     )
 }
@@ -194,16 +194,16 @@ fn unweighted(
     arities: &[u8; 64],
     starts: &[u16],
     nodes: &[u8; 4096],
-    marks: &[u8],
+    defined: &[u8],
     rules: usize,
 ) -> Answer
-    requires { ⌜ (length (now certificate) % 8 ≡ 0) × (length (now certificate) ≤ 24576) × Kept-pack rules (now arities) (now starts) (now nodes) (now marks) × ((p : System) × (symbols : ℕ) × (c : Component) × Stored p symbols rules (now arities) (now starts) (now nodes) (now marks) × Component-fits p c × Component-at (now certificate) at c × (length (c .weightings) ≡ 0)) ⌝ }
-    ensures { λ r. ⌜ ((p : System) (symbols : ℕ) (c : Component) → Stored p symbols rules (now (arities .entry)) (now (starts .entry)) (now (nodes .entry)) (now (marks .entry)) → Component-fits p c → Component-at (now (certificate .entry)) at c → length (c .weightings) ≡ 0 → Component-judged p c at r) ⌝ }
+    requires { ⌜ (length (now certificate) % 8 ≡ 0) × (length (now certificate) ≤ 24576) × Kept-pack rules (now arities) (now starts) (now nodes) (now defined) × ((p : System) × (symbols : ℕ) × (c : Component) × Stored p symbols rules (now arities) (now starts) (now nodes) (now defined) × Component-fits p c × Component-at (now certificate) at c × (length (c .weightings) ≡ 0)) ⌝ }
+    ensures { λ r. ⌜ ((p : System) (symbols : ℕ) (c : Component) → Stored p symbols rules (now (arities .entry)) (now (starts .entry)) (now (nodes .entry)) (now (defined .entry)) → Component-fits p c → Component-at (now (certificate .entry)) at c → length (c .weightings) ≡ 0 → Component-judged p c at r) ⌝ }
 {
     let r = records::record_at(certificate, 8 * (at + 1));
     let rule = r.a as usize;
     let right = starts[2 * rule + 1] as usize + r.b as usize;
-    if pair_finder::arcs::arc_from(arities, starts, nodes, marks, right, rule) {
+    if pair_finder::arcs::arc_from(arities, starts, nodes, defined, right, rule) {
         return Answer::Refused(Refusal::SelfArc);
     }
     Answer::Passed(at + 2)
@@ -218,15 +218,15 @@ fn judge_component(
     arities: &[u8; 64],
     starts: &[u16],
     nodes: &[u8; 4096],
-    marks: &[u8],
+    defined: &[u8],
     rules: usize,
 ) -> Answer
-    requires { ⌜ (length (now certificate) % 8 ≡ 0) × (length (now certificate) ≤ 24576) × Kept-pack rules (now arities) (now starts) (now nodes) (now marks) × Marked-is (now table) [] × ((p : System) × (symbols : ℕ) × (c : Component) × Stored p symbols rules (now arities) (now starts) (now nodes) (now marks) × Component-fits p c × Component-at (now certificate) at c × Rules-known p (now certificate) at before (now table)) ⌝ }
-    ensures { λ r. ⌜ Marked-is (now (table .exit)) [] × ((p : System) (symbols : ℕ) (c : Component) → Stored p symbols rules (now (arities .entry)) (now (starts .entry)) (now (nodes .entry)) (now (marks .entry)) → Component-fits p c → Component-at (now (certificate .entry)) at c → Rules-known p (now (certificate .entry)) at before (now (table .entry)) → Component-judged p c at r × Known-after p c (now (certificate .entry)) at before (now (table .exit))) ⌝ }
+    requires { ⌜ (length (now certificate) % 8 ≡ 0) × (length (now certificate) ≤ 24576) × Kept-pack rules (now arities) (now starts) (now nodes) (now defined) × Marked-is (now table) [] × ((p : System) × (symbols : ℕ) × (c : Component) × Stored p symbols rules (now arities) (now starts) (now nodes) (now defined) × Component-fits p c × Component-at (now certificate) at c × Rules-known p (now certificate) at before (now table)) ⌝ }
+    ensures { λ r. ⌜ Marked-is (now (table .exit)) [] × ((p : System) (symbols : ℕ) (c : Component) → Stored p symbols rules (now (arities .entry)) (now (starts .entry)) (now (nodes .entry)) (now (defined .entry)) → Component-fits p c → Component-at (now (certificate .entry)) at c → Rules-known p (now (certificate .entry)) at before (now (table .entry)) → Component-judged p c at r × Known-after p c (now (certificate .entry)) at before (now (table .exit))) ⌝ }
 {
     let r = records::record_at(certificate, 8 * at);
     if r.b == 0 {
-        return unweighted(certificate, at, arities, starts, nodes, marks, rules);
+        return unweighted(certificate, at, arities, starts, nodes, defined, rules);
     }
     weighted(
         certificate,
@@ -237,7 +237,7 @@ fn judge_component(
         arities,
         starts,
         nodes,
-        marks,
+        defined,
         rules,
     )
 }
@@ -262,10 +262,10 @@ pub fn judge_components(
     arities: &[u8; 64],
     starts: &[u16],
     nodes: &[u8; 4096],
-    marks: &[u8],
+    defined: &[u8],
 ) -> Answer
-    requires { ⌜ (length (now certificate) % 8 ≡ 0) × (length (now certificate) ≤ 24576) × Kept-pack rules (now arities) (now starts) (now nodes) (now marks) × ((p : System) × Components-from p (now certificate) components rules (now arities) (now starts) (now nodes) (now marks)) ⌝ }
-    ensures { λ r. ⌜ ((p : System) (a : Components-from p (now (certificate .entry)) components rules (now (arities .entry)) (now (starts .entry)) (now (nodes .entry)) (now (marks .entry))) → refusal (answer-outcome r) ≡ components-refusal p (plain p) (a .all)) ⌝ }
+    requires { ⌜ (length (now certificate) % 8 ≡ 0) × (length (now certificate) ≤ 24576) × Kept-pack rules (now arities) (now starts) (now nodes) (now defined) × ((p : System) × Components-from p (now certificate) components rules (now arities) (now starts) (now nodes) (now defined)) ⌝ }
+    ensures { λ r. ⌜ ((p : System) (a : Components-from p (now (certificate .entry)) components rules (now (arities .entry)) (now (starts .entry)) (now (nodes .entry)) (now (defined .entry))) → refusal (answer-outcome r) ≡ components-refusal p (plain p) (a .all)) ⌝ }
 {
     let mut table = [0u16; 1152];
     let mut before = 0;
@@ -280,7 +280,7 @@ pub fn judge_components(
             arities,
             starts,
             nodes,
-            marks,
+            defined,
             rules,
         ) {
             Answer::Refused(x) => {

@@ -20,10 +20,10 @@ pub fn judge(
     arities: &[u8; 64],
     starts: &[u16],
     nodes: &[u8; 4096],
-    marks: &[u8],
+    defined: &[u8],
 ) -> Answer
-    requires { ⌜ (length (now certificate) % 8 ≡ 0) × (length (now certificate) ≤ 24576) × Kept-pack rules (now arities) (now starts) (now nodes) (now marks) × ((p : System) × Judgeable p (now certificate) components rules (now arities) (now starts) (now nodes) (now marks)) ⌝ }
-    ensures { λ r. ⌜ ((p : System) (j : Judgeable p (now (certificate .entry)) components rules (now (arities .entry)) (now (starts .entry)) (now (nodes .entry)) (now (marks .entry))) → Judged-as (judged p (plain p) (j .all)) r) ⌝ }
+    requires { ⌜ (length (now certificate) % 8 ≡ 0) × (length (now certificate) ≤ 24576) × Kept-pack rules (now arities) (now starts) (now nodes) (now defined) × ((p : System) × Judgeable p (now certificate) components rules (now arities) (now starts) (now nodes) (now defined)) ⌝ }
+    ensures { λ r. ⌜ ((p : System) (j : Judgeable p (now (certificate .entry)) components rules (now (arities .entry)) (now (starts .entry)) (now (nodes .entry)) (now (defined .entry))) → Judged-as (judged p (plain p) (j .all)) r) ⌝ }
 {
     match partition::judge(
         certificate,
@@ -32,7 +32,7 @@ pub fn judge(
         arities,
         starts,
         nodes,
-        marks,
+        defined,
     ) {
         Answer::Refused(x) => Answer::Refused(x),
         Answer::Passed(_) => component::judge_components(
@@ -42,7 +42,7 @@ pub fn judge(
             arities,
             starts,
             nodes,
-            marks,
+            defined,
         ),
     }
 }

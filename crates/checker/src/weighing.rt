@@ -126,11 +126,11 @@ pub fn judge_rules(
     table: &[u16; 1152],
     starts: &[u16],
     nodes: &[u8; 4096],
-    marks: &[u8],
+    defined: &[u8],
     rules: usize,
 ) -> Verdict
-    requires { ⌜ Kept-pack rules (now arities) (now starts) (now nodes) (now marks) × ((p : System) × (symbols : ℕ) × Stored p symbols rules (now arities) (now starts) (now nodes) (now marks)) ⌝ }
-    ensures { λ r. ⌜ ((p : System) (symbols : ℕ) (ws ms : List Weight) → Stored p symbols rules (now (arities .entry)) (now (starts .entry)) (now (nodes .entry)) (now (marks .entry)) → Table-is (now (table .entry)) ws → r ≡ verdict (any (rule-over (record { weights = ws; marked = ms })) (p .rules)) (not (any (rule-rises (record { weights = ws; marked = ms })) (p .rules)))) ⌝ }
+    requires { ⌜ Kept-pack rules (now arities) (now starts) (now nodes) (now defined) × ((p : System) × (symbols : ℕ) × Stored p symbols rules (now arities) (now starts) (now nodes) (now defined)) ⌝ }
+    ensures { λ r. ⌜ ((p : System) (symbols : ℕ) (ws ms : List Weight) → Stored p symbols rules (now (arities .entry)) (now (starts .entry)) (now (nodes .entry)) (now (defined .entry)) → Table-is (now (table .entry)) ws → r ≡ verdict (any (rule-over (record { weights = ws; marked = ms })) (p .rules)) (not (any (rule-rises (record { weights = ws; marked = ms })) (p .rules)))) ⌝ }
 {
     let mut failed = false;
     let mut i = 0;
@@ -165,11 +165,11 @@ pub fn judge_pairs(
     table: &[u16; 1152],
     starts: &[u16],
     nodes: &[u8; 4096],
-    marks: &[u8],
+    defined: &[u8],
     rules: usize,
 ) -> Verdict
-    requires { ⌜ (length (now certificate) % 8 ≡ 0) × (length (now certificate) ≤ 24576) × Kept-pack rules (now arities) (now starts) (now nodes) (now marks) × ((p : System) × (symbols : ℕ) × (qs : List Pair) × Stored p symbols rules (now arities) (now starts) (now nodes) (now marks) × All-pairs p qs × Pairs-at (now certificate) from qs × (length qs ≡ count)) ⌝ }
-    ensures { λ r. ⌜ ((p : System) (symbols : ℕ) (qs : List Pair) (ws ms : List Weight) → Stored p symbols rules (now (arities .entry)) (now (starts .entry)) (now (nodes .entry)) (now (marks .entry)) → All-pairs p qs → Pairs-at (now (certificate .entry)) from qs → length qs ≡ count → Table-is (now (table .entry)) ws → Marked-is (now (table .entry)) ms → any (rule-over (record { weights = ws; marked = ms })) (p .rules) ≡ false → r ≡ verdict (any (call-over (record { weights = ws; marked = ms })) (calls p qs)) (is-none (without (call-falls (record { weights = ws; marked = ms })) (calls p qs)))) ⌝ }
+    requires { ⌜ (length (now certificate) % 8 ≡ 0) × (length (now certificate) ≤ 24576) × Kept-pack rules (now arities) (now starts) (now nodes) (now defined) × ((p : System) × (symbols : ℕ) × (qs : List Pair) × Stored p symbols rules (now arities) (now starts) (now nodes) (now defined) × All-pairs p qs × Pairs-at (now certificate) from qs × (length qs ≡ count)) ⌝ }
+    ensures { λ r. ⌜ ((p : System) (symbols : ℕ) (qs : List Pair) (ws ms : List Weight) → Stored p symbols rules (now (arities .entry)) (now (starts .entry)) (now (nodes .entry)) (now (defined .entry)) → All-pairs p qs → Pairs-at (now (certificate .entry)) from qs → length qs ≡ count → Table-is (now (table .entry)) ws → Marked-is (now (table .entry)) ms → any (rule-over (record { weights = ws; marked = ms })) (p .rules) ≡ false → r ≡ verdict (any (call-over (record { weights = ws; marked = ms })) (calls p qs)) (is-none (without (call-falls (record { weights = ws; marked = ms })) (calls p qs)))) ⌝ }
 {
     let mut sums = [0u64; 17];
     let mut last = 65536;

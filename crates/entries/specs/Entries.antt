@@ -28,8 +28,8 @@ entries-of n [] = []
 entries-of n (r ∷ rs) = let m = numbered n r in cond (eqb (r .kind) P-pair) (entry r m ∷ entries-of m rs) (entries-of m rs)
 
 -- an entry goes to its place, if there is such a place
-unfoldable pub marked : List Entry → (at : ℕ) → Entry → List Entry
-marked es i e = cond (ltb i (length es)) (set es i e) es
+unfoldable pub with-entry : List Entry → (at : ℕ) → Entry → List Entry
+with-entry es i e = cond (ltb i (length es)) (set es i e) es
 
 -- what is kept of the records: how many pairs they name, and the entries of all of them if there is room
 pub record Keeps (rs : List Record) (s : Store) : Type 0 where

@@ -7,7 +7,7 @@ ghost use lib.Dec.{eqb};
 ghost use lib.ListN.{length};
 ghost use Rattle.records.specs.Records.{all-records, record-at};
 ghost use Rattle.records.specs.Order.{P-pair};
-ghost use Rattle.entries.specs.Entries.{numbered, entry, marked, Keeps};
+ghost use Rattle.entries.specs.Entries.{numbered, entry, with-entry, Keeps};
 
 pub struct Entry {
     pub rule: u8,
@@ -71,16 +71,16 @@ fn entry_at(certificate: &[u8], i: usize, component: u16) -> Entry
 }
 
 // Puts the entry at its place, if there is one.
-fn mark(entries: &mut [Entry], at: usize, entry: Entry)
-    ensures { λ _. ⌜ now (entries .exit) ≡ marked (now (entries .entry)) at entry ⌝ }
+fn enter(entries: &mut [Entry], at: usize, entry: Entry)
+    ensures { λ _. ⌜ now (entries .exit) ≡ with-entry (now (entries .entry)) at entry ⌝ }
 {
     if at < entries.len() {
         entries[at] = entry;
     }
 }
 
-// Marks the entries record by record. Answers how many pairs there are.
-fn mark_all(certificate: &[u8], entries: &mut [Entry]) -> usize
+// Enters the pairs record by record. Answers how many pairs there are.
+fn enter_all(certificate: &[u8], entries: &mut [Entry]) -> usize
     requires { ⌜ (length (now certificate) % 8 ≡ 0) × (length (now certificate) ≤ 24576) × (length (now entries) ≡ 2048) ⌝ }
     ensures { λ r. ⌜ Keeps (all-records (now (certificate .entry))) (record { count = r; entries = now (entries .exit) }) ⌝ }
 {
@@ -92,7 +92,7 @@ fn mark_all(certificate: &[u8], entries: &mut [Entry]) -> usize
         number = numbered_at(certificate, i, number);
         let at = place_at(certificate, i, count);
         let entry = entry_at(certificate, i, number);
-        mark(entries, at, entry);
+        enter(entries, at, entry);
         count = counted_at(certificate, i, count);
         i = i + 1;
     }
@@ -109,6 +109,6 @@ pub fn keep(certificate: &[u8]) -> Store
         place: 0,
         component: 0,
     }; 2048];
-    let count = mark_all(certificate, &mut entries);
+    let count = enter_all(certificate, &mut entries);
     Store { entries, count }
 }

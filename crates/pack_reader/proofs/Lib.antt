@@ -15,5 +15,5 @@ pub mod KeptNodes
 -- and the rules and the pack as they are kept.
 pub mod OneRule
 pub mod RulesSoFar
-pub mod Marks
+pub mod Flags
 pub mod WholePack

@@ -1,4 +1,4 @@
--- Marks of the variables among the nodes: a mark more for a node more, and what every mark set tells.
+-- The variables seen among the nodes: one more for a node more, and what it tells that all were seen.
 use mathlib.Core.Path.{_≡_, refl, ap, _∙_}
 use mathlib.Core.Bool.{Bool, true, false, _&&_, _||_, or-false, or-true}
 use mathlib.Core.List.{List, [], _∷_, _++_}
@@ -24,7 +24,7 @@ module _ (cs : List ℕ) (c : ℕ) where
   unfolding member
   member-last v = member-append v cs (c ∷ []) ∙ rw or-false
 
-  -- a symbol's node, or a byte that is no node: no mark
+  -- a symbol's node, or a byte that is no node: nothing is seen
   pub seen-same : (sn : List Bool) → ((v : ℕ) → v < 16 → c ≡ 64 + v → ⊥) → Seen-in cs sn → Seen-in (cs ++ (c ∷ [])) sn
   unfolding Seen-in
   seen-same sn other s v h = rw (member-last (64 + v), ne-eqb c (64 + v) (other v h), or-false) (s v h)
@@ -57,10 +57,10 @@ module _ (sn : List Bool) (long : length sn ≡ 16) where
   pub seen-neither : (c : ℕ) (cs : List ℕ) → 80 ≤ c → all-seen sn (c ∷ cs) ≡ false
   seen-neither c cs h = seen-variable sn c cs (omega arith) ∙ rw (List·getD-eq-default sn false {n = c - 64} (omega arith))
 
-  -- with the marks of some nodes: every variable is among those
-  mark-is : (ds : List ℕ) → Seen-in ds sn → (c : ℕ) → 64 ≤ c → getD sn (c - 64) false ≡ (ltb c 80 && member c ds)
+  -- with the variables seen in some nodes: every variable is among those
+  flag-is : (ds : List ℕ) → Seen-in ds sn → (c : ℕ) → 64 ≤ c → getD sn (c - 64) false ≡ (ltb c 80 && member c ds)
   unfolding Seen-in
-  mark-is ds s c h =
+  flag-is ds s c h =
       by-test (ltb c 80)
       (λ e.
       let l = ltb-true c 80 e in
@@ -74,4 +74,4 @@ module _ (sn : List Bool) (long : length sn ≡ 16) where
   seen-variables ds s (c ∷ cs) =
       by-test (ltb c 64)
       (λ e. rw (e, seen-variables ds s cs))
-      (λ e. rw (e, mark-is ds s c (ltb-false c 64 e), seen-variables ds s cs))
+      (λ e. rw (e, flag-is ds s c (ltb-false c 64 e), seen-variables ds s cs))

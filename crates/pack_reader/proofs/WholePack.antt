@@ -23,12 +23,12 @@ use Rattle.records.proofs.Bytes.{drop-records}
 use Rattle.terms.proofs.Parsing.{flat-positive}
 use Rattle.packs.specs.PackReading.{between-rules, most-pack-bytes, most-symbols, pack-from, read-pack}
 use Rattle.packs.specs.Encoding.{Good-pack}
-use Rattle.pack_reader.specs.Stored.{Rule-at, Stored, symbol-steps, row-after, Symbols-read, Rules-read, Marked}
+use Rattle.pack_reader.specs.Stored.{Rule-at, Stored, symbol-steps, row-after, Symbols-read, Rules-read, Flagged}
 use Rattle.packs.proofs.OnlyEncodings.{pack-good}
 use Rattle.pack_reader.proofs.SymbolsPhase.{symbols-phase, symbols-told}
 use Rattle.pack_reader.proofs.RulesSoFar.{from-rules}
 use Rattle.pack_reader.proofs.OneRule.{as-refused}
-use Rattle.pack_reader.proofs.Marks.{marks-defined}
+use Rattle.pack_reader.proofs.Flags.{flags-defined}
 
 -- 1
 
@@ -124,14 +124,14 @@ module _ (pack : List ℕ) (short : length pack ≤ most-pack-bytes) (whole : le
           let l = flat-positive (rule (r .system) i .left) (term-not-list (r .system) _ (g .left-term)) in
           omega (arith, r .kept i k .left-kept .within)
 
-      pub stored : (marks : List ℕ) → s ≤ length arities → Marked starts nodes n marks → Stored (r .system) s n arities starts nodes marks
+      pub stored : (flags : List ℕ) → s ≤ length arities → Flagged starts nodes n flags → Stored (r .system) s n arities starts nodes flags
       unfolding Good
-      stored marks fits m =
+      stored flags fits m =
           record {
             symbols-are = rw (r .arities-are) (sym (length-take-le s arities fits));
             rules-are = r .many;
             arities-are = sym (r .arities-are);
             rules-at = λ i h. r .kept i (omega (arith, r .many));
-            marks-are = marks-defined (r .system) starts nodes (r .kept) (λ i h. good .good i h .left-applied) marks (rw (r .many) at m);
+            flags-are = flags-defined (r .system) starts nodes (r .kept) (λ i h. good .good i h .left-applied) flags (rw (r .many) at m);
             good = good;
           }

@@ -32,13 +32,13 @@ pub record Rule-at (starts nodes : List ℕ) (i : ℕ) (r : Rule) : Type 0 where
   pub left-long : getD starts (2 * i + 1) 0 ≡ getD starts (2 * i) 0 + length (flat (r .left))
   pub right-long : getD starts (2 * i + 2) 0 ≡ getD starts (2 * i + 1) 0 + length (flat (r .right))
 
--- symbols' arities, rules and their nodes, and a mark of 1 for each defined symbol
-pub record Stored (p : System) (symbols rules : ℕ) (arities starts nodes marks : List ℕ) : Type 0 where
+-- symbols' arities, rules and their nodes, and a flag of 1 for each defined symbol
+pub record Stored (p : System) (symbols rules : ℕ) (arities starts nodes flags : List ℕ) : Type 0 where
   pub symbols-are : symbols ≡ length (p .arities)
   pub rules-are : rules ≡ length (p .rules)
   pub arities-are : take symbols arities ≡ p .arities
   pub rules-at : (i : ℕ) → i < rules → Rule-at starts nodes i (rule p i)
-  pub marks-are : (f : ℕ) → f < 64 → getD marks f 0 ≡ cond (defined p f) 1 0
+  pub flags-are : (f : ℕ) → f < 64 → getD flags f 0 ≡ cond (defined p f) 1 0
   pub good : Good-pack p
 
 -- ONE NODE RECORD: 2, then 3
@@ -74,13 +74,13 @@ Nodes-read (refused n) x base o z = (answer-outcome x ≡ refused n) × (length 
 Nodes-read (passed y) x base o z =
     (answer-outcome x ≡ passed (y .last)) × (length z ≡ length o) × (take base z ≡ take base o) × Kept z base (y .nodes)
 
--- every variable among the nodes has a mark
-unfoldable pub all-seen : (marks : List Bool) → (nodes : List ℕ) → Bool
+-- every variable among the nodes was seen
+unfoldable pub all-seen : (seen : List Bool) → (nodes : List ℕ) → Bool
 all-seen sn [] = true
 all-seen sn (c ∷ cs) = (ltb c 64 || getD sn (c - 64) false) && all-seen sn cs
 
--- the marks are those of the variables among the nodes
-unfoldable pub Seen-in : (nodes : List ℕ) → (marks : List Bool) → Type 0
+-- what was seen are the variables among the nodes
+unfoldable pub Seen-in : (nodes : List ℕ) → (seen : List Bool) → Type 0
 Seen-in cs sn = (v : ℕ) → v < 16 → getD sn v false ≡ member (64 + v) cs
 
 -- 4, 5, 6 of a rule in bytes
@@ -101,13 +101,13 @@ Rule-read (passed y) l ar x base o z =
     (answer-outcome x ≡ after (rule-judged ar (codes (take l (y .nodes))) (codes (drop l (y .nodes)))) (λ k. passed (y .last)))
     × (length z ≡ length o) × (take base z ≡ take base o) × Kept z base (y .nodes)
 
--- what `mark_defined` leaves: a mark of 1 for each byte below 64 that begins a left side
+-- what `flag_defined` leaves: a flag of 1 for each byte below 64 that begins a left side
 unfoldable pub begins-left : (starts nodes : List ℕ) → (rules : ℕ) → (f : ℕ) → Bool
 begins-left ss ns zero f = false
 begins-left ss ns (suc i) f = eqb (getD ns (getD ss (2 * i) 0) 0) f || begins-left ss ns i f
 
-unfoldable pub Marked : (starts nodes : List ℕ) → (rules : ℕ) → (marks : List ℕ) → Type 0
-Marked ss ns n ms = (f : ℕ) → f < 64 → getD ms f 0 ≡ cond (begins-left ss ns n f) 1 0
+unfoldable pub Flagged : (starts nodes : List ℕ) → (rules : ℕ) → (flags : List ℕ) → Type 0
+Flagged ss ns n ms = (f : ℕ) → f < 64 → getD ms f 0 ≡ cond (begins-left ss ns n f) 1 0
 
 -- SYMBOLS: one S record, then all of them up to the first R or the end
 unfoldable pub arity-outcome : (i : ℕ) → Record → Outcome ℕ
@@ -146,6 +146,6 @@ Rules-read (passed p) ar x ss ns =
     (answer-outcome x ≡ passed (length (p .rules))) × (p .arities ≡ ar) × ((i : ℕ) → i < length (p .rules) → Rule-at ss ns i (rule p i))
 
 -- THE PACK
-unfoldable pub Pack-read : Outcome System → PackRead → (arities starts nodes marks : List ℕ) → Type 0
+unfoldable pub Pack-read : Outcome System → PackRead → (arities starts nodes flags : List ℕ) → Type 0
 Pack-read (refused n) x ar ss ns ms = (y : Refusal) × (x ≡ PackRefused y) × (number-of y ≡ n)
 Pack-read (passed p) x ar ss ns ms = (c : Counts) × (x ≡ Read c) × Stored p (c .symbols) (c .rules) ar ss ns ms

@@ -24,16 +24,16 @@ pub enum PackRead {
     Refused(Refusal),
 }
 
-// Reads a pack: its arities, where each side's nodes start, the nodes, and marks of the defined symbols.
+// Reads a pack: its arities, where each side's nodes start, the nodes, and a flag for each defined symbol.
 pub fn read_pack(
     pack: &[u8],
     arities: &mut [u8],
     starts: &mut [u16],
     nodes: &mut [u8],
-    marks: &mut [u8],
+    defined: &mut [u8],
 ) -> PackRead
-    requires { ⌜ (length (now arities) ≡ 64) × (length (now starts) ≡ 129) × (length (now nodes) ≡ 4096) × (length (now marks) ≡ 64) ⌝ }
-    ensures { λ r. ⌜ Pack-read (read-pack (now (pack .entry))) r (now (arities .exit)) (now (starts .exit)) (now (nodes .exit)) (now (marks .exit)) ⌝ }
+    requires { ⌜ (length (now arities) ≡ 64) × (length (now starts) ≡ 129) × (length (now nodes) ≡ 4096) × (length (now defined) ≡ 64) ⌝ }
+    ensures { λ r. ⌜ Pack-read (read-pack (now (pack .entry))) r (now (arities .exit)) (now (starts .exit)) (now (nodes .exit)) (now (defined .exit)) ⌝ }
 {
     if 33792 < pack.len() {
         return PackRead::Refused(Refusal::CutFile);
@@ -46,7 +46,7 @@ pub fn read_pack(
         Answer::Passed(s) => match rules::read_rules(pack, s, arities, starts, nodes) {
             Answer::Refused(x) => PackRead::Refused(x),
             Answer::Passed(n) => {
-                rules::mark_defined(starts, nodes, n, marks);
+                rules::flag_defined(starts, nodes, n, defined);
                 PackRead::Read(Counts {
                     symbols: s,
                     rules: n,

@@ -10,7 +10,7 @@ ghost use lib.ListN.{length, getD, drop, take, set, replicate};
 ghost use Rattle.records.specs.Answers.{answer-outcome};
 ghost use Rattle.records.specs.Records.{all-records, record-at};
 ghost use Rattle.packs.specs.PackReading.{pack-from, between-rules};
-ghost use Rattle.pack_reader.specs.Stored.{rule-header, node-steps, Rule-read, Rules-read, row-after, Marked};
+ghost use Rattle.pack_reader.specs.Stored.{rule-header, node-steps, Rule-read, Rules-read, row-after, Flagged};
 
 // R's fields: 2, then 3.
 fn header(r: Record, i: usize) -> Answer
@@ -133,28 +133,28 @@ pub fn read_rules(
     Answer::Refused(Refusal::StrayRecord)
 }
 
-fn clear(marks: &mut [u8])
-    ensures { λ _. ⌜ now (marks .exit) ≡ replicate (length (now (marks .entry))) 0 ⌝ }
+fn clear(defined: &mut [u8])
+    ensures { λ _. ⌜ now (defined .exit) ≡ replicate (length (now (defined .entry))) 0 ⌝ }
 {
     let mut f = 0;
-    while f < marks.len() {
-        marks[f] = 0;
+    while f < defined.len() {
+        defined[f] = 0;
         f = f + 1;
     }
 }
 
-// Marks the root of each left side.
-pub fn mark_defined(starts: &[u16], nodes: &[u8], rules: usize, marks: &mut [u8])
-    requires { ⌜ (rules ≤ 64) × (length (now starts) ≡ 129) × (length (now marks) ≡ 64) × ((i : ℕ) → i < rules → getD (now starts) (2 * i) 0 < length (now nodes)) ⌝ }
-    ensures { λ _. ⌜ Marked (now (starts .entry)) (now (nodes .entry)) rules (now (marks .exit)) ⌝ }
+// Flags the root of each left side.
+pub fn flag_defined(starts: &[u16], nodes: &[u8], rules: usize, defined: &mut [u8])
+    requires { ⌜ (rules ≤ 64) × (length (now starts) ≡ 129) × (length (now defined) ≡ 64) × ((i : ℕ) → i < rules → getD (now starts) (2 * i) 0 < length (now nodes)) ⌝ }
+    ensures { λ _. ⌜ Flagged (now (starts .entry)) (now (nodes .entry)) rules (now (defined .exit)) ⌝ }
 {
-    clear(marks);
+    clear(defined);
     let mut i = 0;
     while i < rules {
         let at = starts[2 * i] as usize;
         let c = nodes[at] as usize;
         if c < 64 {
-            marks[c] = 1;
+            defined[c] = 1;
         }
         i = i + 1;
     }

@@ -9,13 +9,13 @@ ghost use Rattle.records.specs.Answers.{answer-outcome};
 ghost use Rattle.terms.specs.Kept.{balanced, part};
 ghost use Rattle.pack_reader.specs.Stored.{all-seen, Seen-in, rule-judged};
 
-// What a right side is: exactly one term or not, and each variable in it marked or not.
+// What a right side is: exactly one term or not, and each variable in it seen on the left or not.
 pub struct RightSide {
     pub one: bool,
     pub closed: bool,
 }
 
-// Marks the variables of a left side, and says whether its nodes are exactly one term: one pass for both.
+// Notes the variables of a left side, and says whether its nodes are exactly one term: one pass for both.
 fn left_side(arities: &[u8], nodes: &[u8], from: usize, to: usize, seen: &mut [bool]) -> bool
     requires { ⌜ (length (now arities) ≡ 64) × (from ≤ to) × (to ≤ length (now nodes)) × (to ≤ 65536) × (now seen ≡ replicate 16 false) ⌝ }
     ensures { λ r. ⌜ (r ≡ balanced (now (arities .entry)) 1 (part (now (nodes .entry)) from to)) × (length (now (seen .exit)) ≡ 16) × (r ≡ true → Seen-in (part (now (nodes .entry)) from to) (now (seen .exit))) ⌝ }
@@ -38,7 +38,7 @@ fn left_side(arities: &[u8], nodes: &[u8], from: usize, to: usize, seen: &mut [b
     wanted == 0
 }
 
-// Compares a right side with the marks of the left: one pass for both answers.
+// Compares a right side with the variables of the left: one pass for both answers.
 fn right_side(arities: &[u8], nodes: &[u8], from: usize, to: usize, seen: &[bool]) -> RightSide
     requires { ⌜ (length (now arities) ≡ 64) × (from ≤ to) × (to ≤ length (now nodes)) × (to ≤ 65536) × (length (now seen) ≡ 16) ⌝ }
     ensures { λ r. ⌜ (r .one ≡ balanced (now (arities .entry)) 1 (part (now (nodes .entry)) from to)) × (r .one ≡ true → r .closed ≡ all-seen (now (seen .entry)) (part (now (nodes .entry)) from to)) ⌝ }

@@ -54,7 +54,7 @@ module _ (p : System) (ns : List ℕ) (a b : ℕ) where
   roots-by-bytes (applied f ts) (applied g us) x y = rw (kept-first ns a (symbol f) (flat ts) x, kept-first ns b (symbol g) (flat us) y)
 
   module _ (ar ms : List ℕ) (are : take (length (p .arities)) ar ≡ p .arities) (few : length (p .arities) ≤ 64)
-      (marks : (f : ℕ) → f < 64 → getD ms f 0 ≡ cond (defined p f) 1 0) (e : getD ns a 0 ≡ getD ns b 0) where
+      (flags : (f : ℕ) → f < 64 → getD ms f 0 ≡ cond (defined p f) 1 0) (e : getD ns a 0 ≡ getD ns b 0) where
     arguments-kept : {t u : Tree} → Applied t → Applied u → is-term p t ≡ true → is-term p u ≡ true → Kept ns a (flat t) → Kept ns b (flat u) →
         Two-lists p ar ms ns (a + 1) (a + length (flat t)) (b + 1) (arguments t) (arguments u)
     unfolding flat code arguments
@@ -65,7 +65,7 @@ module _ (p : System) (ns : List ℕ) (a b : ℕ) where
         record {
           arities-are = are;
           arities-few = few;
-          marks-are = marks;
+          flags-are = flags;
           list = v .2;
           well-first = v .3;
           other-list = w .2;
@@ -145,7 +145,7 @@ module _ (ar ss ns ms : List ℕ) (right other : ℕ) (a : Arc-asked ar ss ns ms
           other = arguments (pair-left (a .system) (a-pair other 0));
           lists =
               rw (ends right-at)
-              (arguments-kept (a .system) ns right (getD ss (2 * other) 0) ar ms arities-kept (a .stored .good .symbols) (a .stored .marks-are) e
+              (arguments-kept (a .system) ns right (getD ss (2 * other) 0) ar ms arities-kept (a .stored .good .symbols) (a .stored .flags-are) e
               (right-kept .is) (left-kept .is) (right-kept .term) (left-kept .term) (right-kept .kept) (left-kept .kept));
         }
 

@@ -21,9 +21,9 @@ use Rattle.terms.proofs.Parsing.{length-flat}
 use Rattle.pack_reader.specs.Stored.{Stored}
 use Rattle.pairs.specs.Listing.{a-pair, pairs-from, pairs-of, pairs}
 use Rattle.pairs.specs.Arcs.{arc}
-use Rattle.pair_finder.specs.Walking.{is-marked, rule-pairs, first-pairs, Laid, Arc-asked}
+use Rattle.pair_finder.specs.Walking.{is-defined, rule-pairs, first-pairs, Laid, Arc-asked}
 use Rattle.pair_finder.proofs.Kept.{kept-part}
-use Rattle.pair_finder.proofs.Subterms.{Stand, subterms-stand, subterm-kept, kept-marked, places-pairs}
+use Rattle.pair_finder.proofs.Subterms.{Stand, subterms-stand, subterm-kept, kept-defined, places-pairs}
 
 -- an arc does not ask at which place of its rule the other pair stands
 pub arc-any-place : (p : System) (q : Pair) (i k : ℕ) → arc p q (a-pair i k) ≡ arc p q (a-pair i 0)
@@ -74,7 +74,7 @@ module _ (p : System) (symbols rules : ℕ) (ar ss ns ms : List ℕ) (s : Stored
   stored-rule-pairs i h =
       let at = s .rules-at i h in
       rw (kept-part ns (begins i) (ends i) (flat (rule p i .right)) (at .right-long) (at .right-kept))
-      (places-pairs p ms (s .marks-are) (s .good .symbols) i 0 (subterms-there h))
+      (places-pairs p ms (s .flags-are) (s .good .symbols) i 0 (subterms-there h))
 
   stored-first-pairs : (n : ℕ) → n ≤ rules → first-pairs ss ns ms n ≡ pairs-of 0 p (take n (p .rules))
   unfolding first-pairs pairs-of rule
@@ -89,19 +89,19 @@ module _ (p : System) (symbols rules : ℕ) (ar ss ns ms : List ℕ) (s : Stored
   stored-pairs =
       stored-first-pairs rules (omega arith) ∙ ap (pairs-of 0 p) (ap (λ (n : ℕ). take n (p .rules)) (s .rules-are) ∙ take-length (p .rules))
 
-  -- a pair is a rule, a place of its right side, and a mark there
+  -- a pair is a rule, a place of its right side, and a defined symbol there
   pub subterm-at : (i k : ℕ) → i < rules → k < length (subterms (rule p i .right)) → Kept ns (begins i + k) (flat (pair-right p (a-pair i k)))
   unfolding pair-right
   subterm-at i k h l = subterm-kept p ns (begins i) k (subterms-there h) (s .rules-at i h .right-kept) l
 
-  stored-marked : (i k : ℕ) → i < rules → k < length (subterms (rule p i .right)) →
-      is-marked ms (getD ns (begins i + k) 0) ≡ defined-root p (pair-right p (a-pair i k))
+  stored-defined : (i k : ℕ) → i < rules → k < length (subterms (rule p i .right)) →
+      is-defined ms (getD ns (begins i + k) 0) ≡ defined-root p (pair-right p (a-pair i k))
   unfolding pair-right
-  stored-marked i k h l =
+  stored-defined i k h l =
       let term = each-at nil (subterms-terms p _ (term-well p _ (stored-rule h .right-term))) k l in
-      kept-marked p ms (s .marks-are) (s .good .symbols) ns (begins i + k) _ term (subterm-at i k h l)
+      kept-defined p ms (s .flags-are) (s .good .symbols) ns (begins i + k) _ term (subterm-at i k h l)
 
-  pub stored-place : (i k : ℕ) → is-pair p (a-pair i k) ≡ (ltb i rules && (ltb k (ends i - begins i) && is-marked ms (getD ns (begins i + k) 0)))
+  pub stored-place : (i k : ℕ) → is-pair p (a-pair i k) ≡ (ltb i rules && (ltb k (ends i - begins i) && is-defined ms (getD ns (begins i + k) 0)))
   unfolding is-pair
   stored-place i k =
       by-test (ltb i rules)
@@ -109,7 +109,7 @@ module _ (p : System) (symbols rules : ℕ) (ar ss ns ms : List ℕ) (s : Stored
       let r = ltb-true i rules h in
       let e : ends i - begins i ≡ length (subterms (rule p i .right)) = omega (arith, s .rules-at i r .right-long, length-flat (rule p i .right)) in
       by-test (ltb k (length (subterms (rule p i .right))))
-      (λ l. rw (← (s .rules-are), e, h, l) (sym (stored-marked i k r (ltb-true _ _ l))))
+      (λ l. rw (← (s .rules-are), e, h, l) (sym (stored-defined i k r (ltb-true _ _ l))))
       (λ l. rw (← (s .rules-are), e, h, l)))
       (λ h. rw (← (s .rules-are), h))
 

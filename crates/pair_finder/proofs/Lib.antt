@@ -1,6 +1,6 @@
 -- For the code's own proofs, each beside its function.
 -- the listing: places and rules one at a time, and the records in the buffer
-pub mod Marked
+pub mod DefinedPlaces
 pub mod Written
 -- a side's subterms in its bytes
 pub mod Kept

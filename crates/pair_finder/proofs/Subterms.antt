@@ -17,7 +17,7 @@ use Rattle.terms.specs.Kept.{code, codes, Kept}
 use Rattle.terms.proofs.Parsing.{well-app}
 use Rattle.terms.proofs.Rests.{kept-first, kept-others}
 use Rattle.pairs.specs.Listing.{a-pair, pairs-from}
-use Rattle.pair_finder.specs.Walking.{is-marked, places}
+use Rattle.pair_finder.specs.Walking.{is-defined, places}
 use Rattle.pair_finder.proofs.Kept.{kept-left}
 
 -- the trees are terms, and at the place of each its nodes begin
@@ -51,50 +51,50 @@ subterm-kept p nodes a (suc k) (one-stands x ns rest t ts is e s) h l =
 -- MARKS
 
 module _ (p : System) (ms : List ℕ) (are : (f : ℕ) → f < 64 → getD ms f 0 ≡ cond (defined p f) 1 0) (few : length (p .arities) ≤ 64) where
-  variable-unmarked : (v : ℕ) → is-marked ms (64 + v) ≡ false
-  unfolding is-marked
-  variable-unmarked v = rw (le-ltb (64 + v) 64 (omega arith))
+  variable-undefined : (v : ℕ) → is-defined ms (64 + v) ≡ false
+  unfolding is-defined
+  variable-undefined v = rw (le-ltb (64 + v) 64 (omega arith))
 
-  pub symbol-marked : (f : ℕ) → f < 64 → is-marked ms f ≡ defined p f
-  unfolding is-marked
-  symbol-marked f h = rw (lt-ltb f 64 h, are f h) (one-or-none (defined p f))
+  pub symbol-defined : (f : ℕ) → f < 64 → is-defined ms f ≡ defined p f
+  unfolding is-defined
+  symbol-defined f h = rw (lt-ltb f 64 h, are f h) (one-or-none (defined p f))
     where
       one-or-none : (b : Bool) → eqb (cond b 1 0) 1 ≡ b
       one-or-none true = refl
       one-or-none false = refl
 
-  -- a term's first node, which has the mark of its root
+  -- a term's first node, which has the flag of its root
   record First-node (t : Tree) : Type 0 where
     first : Node
     others : List Node
     is : flat t ≡ first ∷ others
-    marked : is-marked ms (code first) ≡ defined-root p t
+    told : is-defined ms (code first) ≡ defined-root p t
 
   first-node : (t : Tree) → is-term p t ≡ true → First-node t
   unfolding flat defined-root code is-term is-list
-  first-node (var v) h = record { first = variable v; others = []; is = refl; marked = variable-unmarked v }
+  first-node (var v) h = record { first = variable v; others = []; is = refl; told = variable-undefined v }
   first-node (app f ts) h =
-      record { first = symbol f; others = flat ts; is = refl; marked = symbol-marked f (let l = well-app p f ts h .0 in omega arith) }
+      record { first = symbol f; others = flat ts; is = refl; told = symbol-defined f (let l = well-app p f ts h .0 in omega arith) }
   first-node nil h = absurd (false≢true h)
   first-node (cons t ts) h = absurd (false≢true h)
 
-  pub kept-marked : (nodes : List ℕ) (a : ℕ) (t : Tree) → is-term p t ≡ true → Kept nodes a (flat t) → is-marked ms (getD nodes a 0) ≡ defined-root p t
-  kept-marked nodes a t h k =
+  pub kept-defined : (nodes : List ℕ) (a : ℕ) (t : Tree) → is-term p t ≡ true → Kept nodes a (flat t) → is-defined ms (getD nodes a 0) ≡ defined-root p t
+  kept-defined nodes a t h k =
       let n = first-node t h in
-      rw (kept-first nodes a (n .first) (n .others) (rw (n .is) at k)) (n .marked)
+      rw (kept-first nodes a (n .first) (n .others) (rw (n .is) at k)) (n .told)
 
-  stands-marked : (t : Tree) (x : Node) (ns rest : List Node) → is-term p t ≡ true → x ∷ ns ≡ flat t ++ rest → is-marked ms (code x) ≡ defined-root p t
-  stands-marked t x ns rest h e =
+  stands-defined : (t : Tree) (x : Node) (ns rest : List Node) → is-term p t ≡ true → x ∷ ns ≡ flat t ++ rest → is-defined ms (code x) ≡ defined-root p t
+  stands-defined t x ns rest h e =
       let n = first-node t h in
       let same : x ∷ ns ≡ n .first ∷ (n .others ++ rest) = rw (n .is) at e in
-      rw (head-eq-of-cons-eq same) (n .marked)
+      rw (head-eq-of-cons-eq same) (n .told)
 
-  -- the marked places are those of the pairs
+  -- the places of defined symbols are those of the pairs
   pub places-pairs : (i k : ℕ) {ns : List Node} {ts : List Tree} → Stand p ns ts → map (a-pair i) (places ms k (codes ns)) ≡ pairs-from i k p ts
   unfolding places codes pairs-from
   places-pairs i k none-stands = refl
   places-pairs i k (one-stands x ns rest t ts h e s) =
-      rw (stands-marked t x ns rest h e)
+      rw (stands-defined t x ns rest h e)
       (same-choice (defined-root p t) _ (places-pairs i (suc k) s))
     where
       same-choice : (b : Bool) (ks : List ℕ) {qs : List Pair} → map (a-pair i) ks ≡ qs → map (a-pair i) (cond b (k ∷ ks) ks) ≡ cond b (a-pair i k ∷ qs) qs

@@ -16,9 +16,9 @@ use Rattle.terms.specs.Kept.{code, Kept, Term-at}
 use Rattle.terms.proofs.Parsing.{well-app, well-cons, flat-positive}
 use Rattle.terms.proofs.Rests.{joined, joined-flat, joined-list, joined-width, joined-well, kept-first, kept-others}
 use Rattle.pairs.specs.Arcs.{may-reach}
-use Rattle.pair_finder.specs.Walking.{is-marked, jumps, Two-lists}
+use Rattle.pair_finder.specs.Walking.{is-defined, jumps, Two-lists}
 use Rattle.pair_finder.proofs.Kept.{kept-left, kept-right}
-use Rattle.pair_finder.proofs.Subterms.{symbol-marked}
+use Rattle.pair_finder.proofs.Subterms.{symbol-defined}
 
 -- TWO LISTS OF ONE LENGTH
 
@@ -79,7 +79,7 @@ module _ (p : System) (ar ms ns : List ℕ) (i end k : ℕ) (t ts u us : Tree) (
       record {
         arities-are = b .arities-are;
         arities-few = b .arities-few;
-        marks-are = b .marks-are;
+        flags-are = b .flags-are;
         list = well-cons p t ts (b .well-first) .1;
         well-first = well-cons p t ts (b .well-first) .2;
         other-list = well-cons p u us (b .well-other) .1;
@@ -108,7 +108,7 @@ module _ (p : System) (ms ns : List ℕ) (are : (f : ℕ) → f < 64 → getD ms
       let l = symbol-small f ts h in
       let m = symbol-small e us g in
       or-left _
-      (rw (kept-first ns i (symbol f) (flat ts) a, kept-first ns k (symbol e) (flat us) b, lt-leb 64 f l, lt-leb 64 e m, symbol-marked p ms are few f l) at j)
+      (rw (kept-first ns i (symbol f) (flat ts) a, kept-first ns k (symbol e) (flat us) b, lt-leb 64 f l, lt-leb 64 e m, symbol-defined p ms are few f l) at j)
   jump-reaches (app f ts) nil h g a b j = absurd (false≢true g)
   jump-reaches (app f ts) (cons u us) h g a b j = absurd (false≢true g)
   jump-reaches nil u h g a b j = absurd (false≢true h)
@@ -124,8 +124,8 @@ module _ (p : System) (ms ns : List ℕ) (are : (f : ℕ) → f < 64 → getD ms
       let s : leb 64 (getD ns k 0) ≡ false = search ors in
       absurd (omega (arith, leb-false 64 (getD ns k 0) s, kept-first ns k (variable w) [] b))
   no-jump (app f ts) (app e us) h g a b j =
-      let s : is-marked ms (getD ns i 0) ≡ false = search ors in
-      applications f ts e us (sym (symbol-marked p ms are few f (symbol-small f ts h)) ∙ (rw (kept-first ns i (symbol f) (flat ts) a) at s))
+      let s : is-defined ms (getD ns i 0) ≡ false = search ors in
+      applications f ts e us (sym (symbol-defined p ms are few f (symbol-small f ts h)) ∙ (rw (kept-first ns i (symbol f) (flat ts) a) at s))
   no-jump (app f ts) nil h g a b j = absurd (false≢true g)
   no-jump (app f ts) (cons u us) h g a b j = absurd (false≢true g)
   no-jump nil u h g a b j = absurd (false≢true h)
@@ -159,7 +159,7 @@ module _ (p : System) (ar ms ns : List ℕ) (i end k f : ℕ) (vs ts : Tree) (g 
       record {
         arities-are = b .arities-are;
         arities-few = b .arities-few;
-        marks-are = b .marks-are;
+        flags-are = b .flags-are;
         list = joined-list p vs ts (xs .1);
         well-first = joined-well p vs ts (x .3) (xs .1) (xs .2);
         other-list = joined-list p ws us (ys .1);
@@ -242,7 +242,7 @@ module _ (p : System) (ar ms ns : List ℕ) (end : ℕ) (answer : Bool) (i k : �
       go (at-hand t ts u us b e) =
           let first = first-at p ar ms ns i end k t ts u us b in
           let other = other-at p ar ms ns i end k t ts u us b in
-          let r = jump-reaches p ms ns (b .marks-are) (b .arities-few) i k t u (first .is) (other .is) (first .kept) (other .kept) j in
+          let r = jump-reaches p ms ns (b .flags-are) (b .arities-few) i k t u (first .is) (other .is) (first .kept) (other .kept) j in
           record { firsts = ts; others = us; lists = rw (x first, y other) (skipped p ar ms ns i end k t ts u us b); same = e ∙ rw r }
 
   -- without a jump both are applications
@@ -263,7 +263,7 @@ module _ (p : System) (ar ms ns : List ℕ) (end : ℕ) (answer : Bool) (i k : �
         go (at-hand t ts u us b e) =
             let first = first-at p ar ms ns i end k t ts u us b in
             let other = other-at p ar ms ns i end k t ts u us b in
-            symbols ts us (no-jump p ms ns (b .marks-are) (b .arities-few) i k t u (first .is) (other .is) (first .kept) (other .kept) j) b e
+            symbols ts us (no-jump p ms ns (b .flags-are) (b .arities-few) i k t u (first .is) (other .is) (first .kept) (other .kept) j) b e
 
     -- unlike symbols end the walk
     pub walk-stops : (getD ns i 0 ≡ getD ns k 0 → ⊥) → answer ≡ false

@@ -18,20 +18,20 @@ use Rattle.pairs.specs.Listing.{a-pair, pairs, pairs-of, pair-bytes}
 use Rattle.pairs.specs.Arcs.{may-reach, arc}
 
 -- a node's byte applies a defined symbol
-unfoldable pub is-marked : (marks : List ℕ) → ℕ → Bool
-is-marked ms c = ltb c 64 && eqb (getD ms c 0) 1
+unfoldable pub is-defined : (flags : List ℕ) → ℕ → Bool
+is-defined ms c = ltb c 64 && eqb (getD ms c 0) 1
 
 -- the places, counted from k, whose node applies a defined symbol
-unfoldable pub places : (marks : List ℕ) → (k : ℕ) → (nodes : List ℕ) → List ℕ
+unfoldable pub places : (flags : List ℕ) → (k : ℕ) → (nodes : List ℕ) → List ℕ
 places ms k [] = []
-places ms k (c ∷ cs) = cond (is-marked ms c) (k ∷ places ms (suc k) cs) (places ms (suc k) cs)
+places ms k (c ∷ cs) = cond (is-defined ms c) (k ∷ places ms (suc k) cs) (places ms (suc k) cs)
 
 -- the pairs of rule i
-unfoldable pub rule-pairs : (starts nodes marks : List ℕ) → (i : ℕ) → List Pair
+unfoldable pub rule-pairs : (starts nodes flags : List ℕ) → (i : ℕ) → List Pair
 rule-pairs ss ns ms i = map (a-pair i) (places ms 0 (part ns (getD ss (2 * i + 1) 0) (getD ss (2 * i + 2) 0)))
 
 -- the pairs of the first n rules
-unfoldable pub first-pairs : (starts nodes marks : List ℕ) → (n : ℕ) → List Pair
+unfoldable pub first-pairs : (starts nodes flags : List ℕ) → (n : ℕ) → List Pair
 first-pairs ss ns ms zero = []
 first-pairs ss ns ms (suc n) = first-pairs ss ns ms n ++ rule-pairs ss ns ms n
 
@@ -44,10 +44,10 @@ pub record Laid (starts nodes : List ℕ) (rules : ℕ) : Type 0 where
   pub within : (i : ℕ) → i < rules → getD starts (2 * i + 2) 0 ≤ length nodes
 
 -- two argument lists of one length kept at two places, the first up to `end`
-pub record Two-lists (p : System) (arities marks nodes : List ℕ) (u end v : ℕ) (ts us : Tree) : Type 0 where
+pub record Two-lists (p : System) (arities flags nodes : List ℕ) (u end v : ℕ) (ts us : Tree) : Type 0 where
   pub arities-are : take (length (p .arities)) arities ≡ p .arities
   pub arities-few : length (p .arities) ≤ 64
-  pub marks-are : (f : ℕ) → f < 64 → getD marks f 0 ≡ cond (defined p f) 1 0
+  pub flags-are : (f : ℕ) → f < 64 → getD flags f 0 ≡ cond (defined p f) 1 0
   pub list : is-list ts ≡ true
   pub well-first : well p ts ≡ true
   pub other-list : is-list us ≡ true
@@ -58,26 +58,26 @@ pub record Two-lists (p : System) (arities marks nodes : List ℕ) (u end v : �
   pub other-kept : Kept nodes v (flat us)
 
 -- some two lists are kept there
-pub record Walkable (arities marks nodes : List ℕ) (u end v : ℕ) : Type 0 where
+pub record Walkable (arities flags nodes : List ℕ) (u end v : ℕ) : Type 0 where
   pub system : System
   pub first : Tree
   pub other : Tree
-  pub lists : Two-lists system arities marks nodes u end v first other
+  pub lists : Two-lists system arities flags nodes u end v first other
 
 -- the walk skips a term on either side: one is a variable, or the first has a defined root
-unfoldable pub jumps : (marks : List ℕ) → (c d : ℕ) → Bool
-jumps ms c d = leb 64 d || (leb 64 c || is-marked ms c)
+unfoldable pub jumps : (flags : List ℕ) → (c d : ℕ) → Bool
+jumps ms c d = leb 64 d || (leb 64 c || is-defined ms c)
 
 -- else it goes on only into both: the same constructor stands on both sides
-unfoldable pub enters : (marks : List ℕ) → (c d : ℕ) → Bool
+unfoldable pub enters : (flags : List ℕ) → (c d : ℕ) → Bool
 enters ms c d = eqb c d && not (jumps ms c d)
 
 -- a pair's right side is kept at `right`, and `other` is a rule
-pub record Arc-asked (arities starts nodes marks : List ℕ) (right other : ℕ) : Type 0 where
+pub record Arc-asked (arities starts nodes flags : List ℕ) (right other : ℕ) : Type 0 where
   pub system : System
   pub symbols : ℕ
   pub rules : ℕ
-  pub stored : Stored system symbols rules arities starts nodes marks
+  pub stored : Stored system symbols rules arities starts nodes flags
   pub pair : Pair
   pub is : is-pair system pair ≡ true
   pub at-right : right ≡ getD starts (2 * pair .at-rule + 1) 0 + pair .place
@@ -94,15 +94,15 @@ pub record Written (at : ℕ) (qs : List Pair) (r : ℕ) (before now : List ℕ)
   pub list-is : now ≡ take at before ++ (pair-bytes qs ++ drop (at + 8 * length qs) before)
 
 -- the arrays in which a pack is kept have their lengths, and its sides lie in them
-pub record Kept-pack (rules : ℕ) (arities starts nodes marks : List ℕ) : Type 0 where
+pub record Kept-pack (rules : ℕ) (arities starts nodes flags : List ℕ) : Type 0 where
   pub laid : Laid starts nodes rules
   pub arities-long : length arities ≡ 64
-  pub marks-long : length marks ≡ 64
+  pub flags-long : length flags ≡ 64
   pub nodes-long : length nodes ≤ 4096
 
 -- a pair of the system kept there, its right side at `right`
-pub record Pair-kept (p : System) (q : Pair) (rules : ℕ) (arities starts nodes marks : List ℕ) (right : ℕ) : Type 0 where
+pub record Pair-kept (p : System) (q : Pair) (rules : ℕ) (arities starts nodes flags : List ℕ) (right : ℕ) : Type 0 where
   pub symbols : ℕ
-  pub stored : Stored p symbols rules arities starts nodes marks
+  pub stored : Stored p symbols rules arities starts nodes flags
   pub is : is-pair p q ≡ true
   pub at-right : right ≡ getD starts (2 * q .at-rule + 1) 0 + q .place

@@ -14,9 +14,9 @@ ghost use Rattle.pairs.specs.Arcs.{may-reach, arc};
 ghost use Rattle.pair_finder.specs.Walking.{jumps, enters, Walkable, Laid, Arc-asked, Place-answer};
 
 // The walk skips a term on either side.
-fn jumps(marks: &[u8], c: u8, d: u8) -> bool
-    requires { ⌜ length (now marks) ≡ 64 ⌝ }
-    ensures { λ r. ⌜ r ≡ jumps (now (marks .entry)) c d ⌝ }
+fn jumps(defined: &[u8], c: u8, d: u8) -> bool
+    requires { ⌜ length (now defined) ≡ 64 ⌝ }
+    ensures { λ r. ⌜ r ≡ jumps (now (defined .entry)) c d ⌝ }
 {
     if 64 <= d {
         return true;
@@ -24,35 +24,35 @@ fn jumps(marks: &[u8], c: u8, d: u8) -> bool
     if 64 <= c {
         return true;
     }
-    crate::listing::is_marked(marks, c)
+    crate::listing::is_defined(defined, c)
 }
 
 // The walk goes one node on on both sides: the same constructor stands there.
-fn enters(marks: &[u8], c: u8, d: u8) -> bool
-    requires { ⌜ length (now marks) ≡ 64 ⌝ }
-    ensures { λ r. ⌜ r ≡ enters (now (marks .entry)) c d ⌝ }
+fn enters(defined: &[u8], c: u8, d: u8) -> bool
+    requires { ⌜ length (now defined) ≡ 64 ⌝ }
+    ensures { λ r. ⌜ r ≡ enters (now (defined .entry)) c d ⌝ }
 {
     if c != d {
         return false;
     }
-    !jumps(marks, c, d)
+    !jumps(defined, c, d)
 }
 
 // Each argument of the one list, kept from u to `end`, may reach the argument of the other, kept from v on.
-fn may_reach(arities: &[u8], marks: &[u8], nodes: &[u8], u: usize, end: usize, v: usize) -> bool
-    requires { ⌜ (length (now arities) ≡ 64) × (length (now marks) ≡ 64) × (length (now nodes) ≤ 65536) × Walkable (now arities) (now marks) (now nodes) u end v ⌝ }
-    ensures { λ r. ⌜ ((w : Walkable (now (arities .entry)) (now (marks .entry)) (now (nodes .entry)) u end v) → r ≡ may-reach (w .system) (w .first) (w .other)) ⌝ }
+fn may_reach(arities: &[u8], defined: &[u8], nodes: &[u8], u: usize, end: usize, v: usize) -> bool
+    requires { ⌜ (length (now arities) ≡ 64) × (length (now defined) ≡ 64) × (length (now nodes) ≤ 65536) × Walkable (now arities) (now defined) (now nodes) u end v ⌝ }
+    ensures { λ r. ⌜ ((w : Walkable (now (arities .entry)) (now (defined .entry)) (now (nodes .entry)) u end v) → r ≡ may-reach (w .system) (w .first) (w .other)) ⌝ }
 {
     let mut i = u;
     let mut k = v;
     while i < end {
         let c = nodes[i];
         let d = nodes[k];
-        if enters(marks, c, d) {
+        if enters(defined, c, d) {
             i = i + 1;
             k = k + 1;
         } else {
-            if !jumps(marks, c, d) {
+            if !jumps(defined, c, d) {
                 return false;
             }
             i = terms::skip(arities, nodes, i);
@@ -67,19 +67,19 @@ pub fn arc_to(
     arities: &[u8],
     starts: &[u16],
     nodes: &[u8],
-    marks: &[u8],
+    defined: &[u8],
     right: usize,
     end: usize,
     other: usize,
 ) -> bool
-    requires { ⌜ (length (now arities) ≡ 64) × (length (now starts) ≡ 129) × (length (now marks) ≡ 64) × (length (now nodes) ≤ 65536) × ((s : Term-at (now arities) (now nodes) right) → end ≡ right + length (flat (s .term))) × Arc-asked (now arities) (now starts) (now nodes) (now marks) right other ⌝ }
-    ensures { λ r. ⌜ ((a : Arc-asked (now (arities .entry)) (now (starts .entry)) (now (nodes .entry)) (now (marks .entry)) right other) → r ≡ arc (a .system) (a .pair) (a-pair other 0)) ⌝ }
+    requires { ⌜ (length (now arities) ≡ 64) × (length (now starts) ≡ 129) × (length (now defined) ≡ 64) × (length (now nodes) ≤ 65536) × ((s : Term-at (now arities) (now nodes) right) → end ≡ right + length (flat (s .term))) × Arc-asked (now arities) (now starts) (now nodes) (now defined) right other ⌝ }
+    ensures { λ r. ⌜ ((a : Arc-asked (now (arities .entry)) (now (starts .entry)) (now (nodes .entry)) (now (defined .entry)) right other) → r ≡ arc (a .system) (a .pair) (a-pair other 0)) ⌝ }
 {
     let left = starts[2 * other] as usize;
     if nodes[right] != nodes[left] {
         return false;
     }
-    may_reach(arities, marks, nodes, right + 1, end, left + 1)
+    may_reach(arities, defined, nodes, right + 1, end, left + 1)
 }
 
 // The same where the end is not known yet.
@@ -87,28 +87,28 @@ pub fn arc_from(
     arities: &[u8],
     starts: &[u16],
     nodes: &[u8],
-    marks: &[u8],
+    defined: &[u8],
     right: usize,
     other: usize,
 ) -> bool
-    requires { ⌜ (length (now arities) ≡ 64) × (length (now starts) ≡ 129) × (length (now marks) ≡ 64) × (length (now nodes) ≤ 65536) × Arc-asked (now arities) (now starts) (now nodes) (now marks) right other ⌝ }
-    ensures { λ r. ⌜ ((a : Arc-asked (now (arities .entry)) (now (starts .entry)) (now (nodes .entry)) (now (marks .entry)) right other) → r ≡ arc (a .system) (a .pair) (a-pair other 0)) ⌝ }
+    requires { ⌜ (length (now arities) ≡ 64) × (length (now starts) ≡ 129) × (length (now defined) ≡ 64) × (length (now nodes) ≤ 65536) × Arc-asked (now arities) (now starts) (now nodes) (now defined) right other ⌝ }
+    ensures { λ r. ⌜ ((a : Arc-asked (now (arities .entry)) (now (starts .entry)) (now (nodes .entry)) (now (defined .entry)) right other) → r ≡ arc (a .system) (a .pair) (a-pair other 0)) ⌝ }
 {
     let end = terms::skip(arities, nodes, right);
-    arc_to(arities, starts, nodes, marks, right, end, other)
+    arc_to(arities, starts, nodes, defined, right, end, other)
 }
 
 // Where among the nodes the right side of a pair is kept, or 7.
 pub fn place_of(
     starts: &[u16],
     nodes: &[u8],
-    marks: &[u8],
+    defined: &[u8],
     rules: usize,
     rule: usize,
     place: usize,
 ) -> Answer
-    requires { ⌜ Laid (now starts) (now nodes) rules × (length (now marks) ≡ 64) ⌝ }
-    ensures { λ r. ⌜ ((p : System) (symbols : ℕ) (arities : List ℕ) → Stored p symbols rules arities (now (starts .entry)) (now (nodes .entry)) (now (marks .entry)) → Place-answer p (now (starts .entry)) rule place r) ⌝ }
+    requires { ⌜ Laid (now starts) (now nodes) rules × (length (now defined) ≡ 64) ⌝ }
+    ensures { λ r. ⌜ ((p : System) (symbols : ℕ) (arities : List ℕ) → Stored p symbols rules arities (now (starts .entry)) (now (nodes .entry)) (now (defined .entry)) → Place-answer p (now (starts .entry)) rule place r) ⌝ }
 {
     if rules <= rule {
         return Answer::Refused(Refusal::NoSuchPair);
@@ -118,7 +118,7 @@ pub fn place_of(
     if to - from <= place {
         return Answer::Refused(Refusal::NoSuchPair);
     }
-    if crate::listing::is_marked(marks, nodes[from + place]) {
+    if crate::listing::is_defined(defined, nodes[from + place]) {
         return Answer::Passed(from + place);
     }
     Answer::Refused(Refusal::NoSuchPair)

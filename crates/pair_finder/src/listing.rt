@@ -6,29 +6,29 @@ ghost use lib.ListN.{length, take, drop};
 ghost use Rattle.terms.specs.Kept.{part};
 ghost use Rattle.pairs.specs.Listing.{a-pair, pair-record, pair-bytes};
 ghost use Rattle.records.specs.Records.{record-bytes};
-ghost use Rattle.pair_finder.specs.Walking.{is-marked, places, rule-pairs, first-pairs, Laid, Written};
+ghost use Rattle.pair_finder.specs.Walking.{is-defined, places, rule-pairs, first-pairs, Laid, Written};
 
 // The node applies a defined symbol.
-pub fn is_marked(marks: &[u8], code: u8) -> bool
-    requires { ⌜ length (now marks) ≡ 64 ⌝ }
-    ensures { λ r. ⌜ r ≡ is-marked (now (marks .entry)) code ⌝ }
+pub fn is_defined(defined: &[u8], code: u8) -> bool
+    requires { ⌜ length (now defined) ≡ 64 ⌝ }
+    ensures { λ r. ⌜ r ≡ is-defined (now (defined .entry)) code ⌝ }
 {
     let c = code as usize;
     if c < 64 {
-        return marks[c] == 1;
+        return defined[c] == 1;
     }
     false
 }
 
 // How many nodes of a side apply a defined symbol.
-fn count_in(nodes: &[u8], marks: &[u8], from: usize, to: usize) -> usize
-    requires { ⌜ (from ≤ to) × (to ≤ length (now nodes)) × (length (now marks) ≡ 64) ⌝ }
-    ensures { λ r. ⌜ r ≡ length (places (now (marks .entry)) 0 (part (now (nodes .entry)) from to)) ⌝ }
+fn count_in(nodes: &[u8], defined: &[u8], from: usize, to: usize) -> usize
+    requires { ⌜ (from ≤ to) × (to ≤ length (now nodes)) × (length (now defined) ≡ 64) ⌝ }
+    ensures { λ r. ⌜ r ≡ length (places (now (defined .entry)) 0 (part (now (nodes .entry)) from to)) ⌝ }
 {
     let mut n = 0;
     let mut i = from;
     while i < to {
-        if is_marked(marks, nodes[i]) {
+        if is_defined(defined, nodes[i]) {
             n = n + 1;
         }
         i = i + 1;
@@ -37,9 +37,9 @@ fn count_in(nodes: &[u8], marks: &[u8], from: usize, to: usize) -> usize
 }
 
 // How many pairs there are.
-pub fn count_pairs(starts: &[u16], nodes: &[u8], marks: &[u8], rules: usize) -> usize
-    requires { ⌜ Laid (now starts) (now nodes) rules × (length (now marks) ≡ 64) ⌝ }
-    ensures { λ r. ⌜ r ≡ length (first-pairs (now (starts .entry)) (now (nodes .entry)) (now (marks .entry)) rules) ⌝ }
+pub fn count_pairs(starts: &[u16], nodes: &[u8], defined: &[u8], rules: usize) -> usize
+    requires { ⌜ Laid (now starts) (now nodes) rules × (length (now defined) ≡ 64) ⌝ }
+    ensures { λ r. ⌜ r ≡ length (first-pairs (now (starts .entry)) (now (nodes .entry)) (now (defined .entry)) rules) ⌝ }
 {
     let mut n = 0;
     let mut i = 0;
@@ -47,7 +47,7 @@ pub fn count_pairs(starts: &[u16], nodes: &[u8], marks: &[u8], rules: usize) -> 
         n = n
             + count_in(
                 nodes,
-                marks,
+                defined,
                 starts[2 * i + 1] as usize,
                 starts[2 * i + 2] as usize,
             );
@@ -77,17 +77,17 @@ fn write_in(
     at: usize,
     rule: usize,
     nodes: &[u8],
-    marks: &[u8],
+    defined: &[u8],
     from: usize,
     to: usize,
 ) -> usize
-    requires { ⌜ (rule < 64) × (from ≤ to) × (to ≤ from + 32) × (to ≤ length (now nodes)) × (length (now marks) ≡ 64) × (at + 8 * length (places (now marks) 0 (part (now nodes) from to)) ≤ length (now list)) ⌝ }
-    ensures { λ r. ⌜ Written at (map (a-pair rule) (places (now (marks .entry)) 0 (part (now (nodes .entry)) from to))) r (now (list .entry)) (now (list .exit)) ⌝ }
+    requires { ⌜ (rule < 64) × (from ≤ to) × (to ≤ from + 32) × (to ≤ length (now nodes)) × (length (now defined) ≡ 64) × (at + 8 * length (places (now defined) 0 (part (now nodes) from to)) ≤ length (now list)) ⌝ }
+    ensures { λ r. ⌜ Written at (map (a-pair rule) (places (now (defined .entry)) 0 (part (now (nodes .entry)) from to))) r (now (list .entry)) (now (list .exit)) ⌝ }
 {
     let mut next = at;
     let mut i = from;
     while i < to {
-        if is_marked(marks, nodes[i]) {
+        if is_defined(defined, nodes[i]) {
             write_record(list, next, rule, i - from);
             next = next + 8;
         }
@@ -97,9 +97,9 @@ fn write_in(
 }
 
 // Writes all records.
-pub fn write_pairs(list: &mut [u8], starts: &[u16], nodes: &[u8], marks: &[u8], rules: usize)
-    requires { ⌜ Laid (now starts) (now nodes) rules × (length (now marks) ≡ 64) × (8 * length (first-pairs (now starts) (now nodes) (now marks) rules) ≤ length (now list)) ⌝ }
-    ensures { λ _. ⌜ now (list .exit) ≡ pair-bytes (first-pairs (now (starts .entry)) (now (nodes .entry)) (now (marks .entry)) rules) ++ drop (8 * length (first-pairs (now (starts .entry)) (now (nodes .entry)) (now (marks .entry)) rules)) (now (list .entry)) ⌝ }
+pub fn write_pairs(list: &mut [u8], starts: &[u16], nodes: &[u8], defined: &[u8], rules: usize)
+    requires { ⌜ Laid (now starts) (now nodes) rules × (length (now defined) ≡ 64) × (8 * length (first-pairs (now starts) (now nodes) (now defined) rules) ≤ length (now list)) ⌝ }
+    ensures { λ _. ⌜ now (list .exit) ≡ pair-bytes (first-pairs (now (starts .entry)) (now (nodes .entry)) (now (defined .entry)) rules) ++ drop (8 * length (first-pairs (now (starts .entry)) (now (nodes .entry)) (now (defined .entry)) rules)) (now (list .entry)) ⌝ }
 {
     let mut at = 0;
     let mut i = 0;
@@ -109,7 +109,7 @@ pub fn write_pairs(list: &mut [u8], starts: &[u16], nodes: &[u8], marks: &[u8], 
             at,
             i,
             nodes,
-            marks,
+            defined,
             starts[2 * i + 1] as usize,
             starts[2 * i + 2] as usize,
         );

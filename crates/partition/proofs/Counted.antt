@@ -14,7 +14,7 @@ use Rattle.rewriting.proofs.Basics.{by-test, same-test, and-left, and-right, an
 use Rattle.pairs.specs.Listing.{a-pair, pairs, same-pair, count-pair}
 use Rattle.pairs.proofs.Listed.{pairs-listed, same-pair-refl, same-pair-eq}
 use Rattle.pair_finder.specs.Walking.{rule-pairs, first-pairs, Laid}
-use Rattle.pair_finder.proofs.Marked.{part-places-few, rule-pairs-long}
+use Rattle.pair_finder.proofs.DefinedPlaces.{part-places-few, rule-pairs-long}
 use Rattle.judging.specs.Judge.{each-once}
 use Rattle.partition.specs.Working.{doubled, All-pairs}
 

@@ -16,7 +16,7 @@ use Rattle.terms.proofs.Parsing.{flat-positive}
 use Rattle.pack_reader.specs.Stored.{Stored}
 use Rattle.pairs.specs.Listing.{a-pair}
 use Rattle.pairs.specs.Arcs.{arc}
-use Rattle.pair_finder.specs.Walking.{is-marked, Kept-pack, Arc-asked, Pair-kept}
+use Rattle.pair_finder.specs.Walking.{is-defined, Kept-pack, Arc-asked, Pair-kept}
 use Rattle.pair_finder.proofs.FromStore.{stored-rule, stored-place}
 use Rattle.pair_finder.proofs.Asked.{no-arc}
 use Rattle.partition.specs.Working.{root, back-to, Begun, Keys, Roots}
@@ -90,10 +90,10 @@ abbrev pub asked-of : (p : System) (q : Pair) (rules : ℕ) (ar ss ns ms : List 
 asked-of p q rules ar ss ns ms right s k h =
     record { system = p; symbols = k .symbols; rules = rules; stored = k .stored; pair = q; is = k .is; at-right = k .at-right; other-rule = h }
 
--- a byte with a mark is a symbol
-marked-small : (ms : List ℕ) (c : ℕ) → is-marked ms c ≡ true → c < 64
-unfolding is-marked
-marked-small ms c h = ltb-true c 64 (and-left _ _ h)
+-- a byte with a flag is a symbol
+defined-small : (ms : List ℕ) (c : ℕ) → is-defined ms c ≡ true → c < 64
+unfolding is-defined
+defined-small ms c h = ltb-true c 64 (and-left _ _ h)
 
 module _ (p : System) (q : Pair) (rules : ℕ) (ar ss ns ms : List ℕ) (right : ℕ) (k : Pair-kept p q rules ar ss ns ms right) where
   -- the root of its right side is one
@@ -102,7 +102,7 @@ module _ (p : System) (q : Pair) (rules : ℕ) (ar ss ns ms : List ℕ) (right :
       let i = q .at-rule in
       let h = sym (stored-place p (k .symbols) rules ar ss ns ms (k .stored) i (q .place)) ∙ k .is in
       let ends = getD ss (2 * i + 2) 0 - getD ss (2 * i + 1) 0 in
-      rw (k .at-right) (marked-small ms _ (and-right (ltb (q .place) ends) _ (and-right (ltb i rules) _ h)))
+      rw (k .at-right) (defined-small ms _ (and-right (ltb (q .place) ends) _ (and-right (ltb i rules) _ h)))
 
   module _ (ls : List ℕ) (own : ℕ) where
     -- no arc leads to a rule with another root

@@ -1,4 +1,4 @@
--- The loop over the entries that finds the lowest component with a pair of each rule, and marks the pairs' slots.
+-- The loop over the entries that finds the lowest component with a pair of each rule, and takes the pairs' slots.
 use mathlib.Core.Path.{_≡_, refl, sym, ap, _∙_}
 use mathlib.Core.Bool.{Bool, true, false, _||_, cond}
 use mathlib.Core.List.{List, [], _∷_}
@@ -11,8 +11,8 @@ use lib.Seq.{drop-cons}
 use Rattle.rewriting.proofs.Basics.{by-test}
 use Rattle.entries.specs.declared.Entry.{Entry}
 use Rattle.entries.specs.Entries.{none}
-use Rattle.partition.specs.Working.{slot, lowest, any-marked}
-use Rattle.partition.proofs.Twice.{marked, unmarked}
+use Rattle.partition.specs.Working.{slot, lowest, any-taken}
+use Rattle.partition.proofs.Twice.{taken, untaken}
 
 lowest-small : (s : ℕ) (es : List Entry) → lowest s es ≤ 65535
 unfolding lowest
@@ -25,22 +25,22 @@ pub record Noted (es : List Entry) (lows seen : List ℕ) (i : ℕ) : Type 0 whe
   pub small : (s : ℕ) → s < 64 → getD lows s 0 ≤ 65535
   pub lowest-is : (s : ℕ) → s < 64 → min (getD lows s 0) (lowest s (drop i es)) ≡ lowest s es
   pub seen-long : length seen ≡ 2048
-  pub marked-is : any-marked seen (drop i es) ≡ any-marked unmarked es
+  pub taken-is : any-taken seen (drop i es) ≡ any-taken untaken es
 
 -- for any number of rules, so that their list is not written out
-none-noted : (es : List Entry) (n : ℕ) → n ≡ 64 → Noted es (replicate n 65535) unmarked 0
-unfolding unmarked
+none-noted : (es : List Entry) (n : ℕ) → n ≡ 64 → Noted es (replicate n 65535) untaken 0
+unfolding untaken
 none-noted es n e =
     record {
       lows-long = length-replicate n 65535 ∙ e;
       small = λ s h. rw (getD-replicate {A = ℕ} n s 65535 0 (omega arith)) (omega arith);
       lowest-is = λ s h. let k = lowest-small s es in rw (getD-replicate {A = ℕ} n s 65535 0 (omega arith)) (omega arith);
       seen-long = length-replicate {A = ℕ} 2048 0;
-      marked-is = refl;
+      taken-is = refl;
     }
 
 pub start : (es : List Entry) → Noted es (replicate 64 65535) (replicate 2048 0) 0
-unfolding unmarked
+unfolding untaken
 start es = none-noted es 64 refl
 
 -- the lowest of what is known, of this entry's component if the rule is its own, and of the rest
@@ -59,16 +59,16 @@ module _ (es : List Entry) (lows seen : List ℕ) (i : ℕ) (h : i < length es) 
   unfolding lowest
   lowest-here s = ap (lowest s) here
 
-  marked-here : any-marked unmarked es ≡ (marked seen (slot e) || any-marked (set seen (slot e) 1) rest)
-  unfolding any-marked
-  marked-here = sym (d .marked-is) ∙ ap (any-marked seen) here
+  taken-here : any-taken untaken es ≡ (taken seen (slot e) || any-taken (set seen (slot e) 1) rest)
+  unfolding any-taken
+  taken-here = sym (d .taken-is) ∙ ap (any-taken seen) here
 
-  pub again : (b : Bool) → b ≡ marked seen (slot e) → b ≡ true → any-marked unmarked es ≡ true
-  again b was h = marked-here ∙ ap (λ (x : Bool). x || any-marked (set seen (slot e) 1) rest) (sym was ∙ h)
+  pub again : (b : Bool) → b ≡ taken seen (slot e) → b ≡ true → any-taken untaken es ≡ true
+  again b was h = taken-here ∙ ap (λ (x : Bool). x || any-taken (set seen (slot e) 1) rest) (sym was ∙ h)
 
   pub first : (b : Bool) (lows′ seen′ : List ℕ) → length lows′ ≡ length lows →
       ((t : ℕ) → t < length lows → getD lows′ t 0 ≡ cond (eqb (e .rule) t) (min (e .component) (getD lows t 0)) (getD lows t 0)) →
-      (b ≡ marked seen (slot e)) × (seen′ ≡ set seen (slot e) 1) → b ≡ false → Noted es lows′ seen′ (i + 1)
+      (b ≡ taken seen (slot e)) × (seen′ ≡ set seen (slot e) 1) → b ≡ false → Noted es lows′ seen′ (i + 1)
   first b lows′ seen′ l lowered was not-yet =
       rw (add-one i, was .1)
       (record {
@@ -81,16 +81,16 @@ module _ (es : List Entry) (lows seen : List ℕ) (i : ℕ) (h : i < length es) 
             (regrouped (eqb (e .rule) s) (getD lows s 0) (e .component) (lowest s rest) _
             (ap (λ (k : ℕ). min (getD lows s 0) k) (sym (lowest-here s)) ∙ d .lowest-is s f));
         seen-long = length-set seen (slot e) 1 ∙ d .seen-long;
-        marked-is = sym (marked-here ∙ ap (λ (x : Bool). x || any-marked (set seen (slot e) 1) rest) (sym (was .0) ∙ not-yet));
+        taken-is = sym (taken-here ∙ ap (λ (x : Bool). x || any-taken (set seen (slot e) 1) rest) (sym (was .0) ∙ not-yet));
       })
 
 module _ (es : List Entry) (lows seen : List ℕ) (i : ℕ) (h : length es ≤ i) (d : Noted es lows seen i) where
   none-left : drop i es ≡ []
   none-left = drop-of-length-le es {i = i} h
 
-  pub none-again : any-marked unmarked es ≡ false
-  unfolding any-marked
-  none-again = sym (d .marked-is) ∙ ap (any-marked seen) none-left
+  pub none-again : any-taken untaken es ≡ false
+  unfolding any-taken
+  none-again = sym (d .taken-is) ∙ ap (any-taken seen) none-left
 
   pub all-lowest : (s : ℕ) → s < 64 → getD lows s 0 ≡ lowest s es
   unfolding lowest

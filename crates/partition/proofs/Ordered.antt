@@ -20,9 +20,9 @@ use Rattle.certificates.proofs.OnlyEncodings.{certificate-read}
 use Rattle.judging.specs.Judge.{plain, all-pairs, each-once, back-arc}
 use Rattle.entries.specs.declared.Entry.{Entry}
 use Rattle.entries.specs.Entries.{none, entries-of}
-use Rattle.partition.specs.Working.{doubled, All-pairs, All-small, named, lowest, any-marked, any-back, Names-pairs, Judgeable, ordered}
+use Rattle.partition.specs.Working.{doubled, All-pairs, All-small, named, lowest, any-taken, any-back, Names-pairs, Judgeable, ordered}
 use Rattle.partition.proofs.Counted.{counted-once}
-use Rattle.partition.proofs.Twice.{unmarked, twice-means}
+use Rattle.partition.proofs.Twice.{untaken, twice-means}
 use Rattle.partition.proofs.Named.{Small, entries-from, entries-are, all-named}
 use Rattle.partition.proofs.Backward.{back-means, one-component}
 use Rattle.partition.proofs.FromRead.{read-are, read-few, read-pairs, read-small}
@@ -55,28 +55,28 @@ module _ (p : System) (ds : List ℕ) (components rules : ℕ) (ar ss ns ms : Li
       subst (λ (q : Pair). is-pair p q ≡ true) e (read-pairs p ds cs (j .read) k (omega (arith, as-many)))
 
   -- as many as there are, and none twice
-  once-is : each-once (pairs p) (all-pairs cs) ≡ (eqb (length es) (length (first-pairs ss ns ms rules)) && not (any-marked unmarked es))
+  once-is : each-once (pairs p) (all-pairs cs) ≡ (eqb (length es) (length (first-pairs ss ns ms rules)) && not (any-taken untaken es))
   once-is =
-      let twice : any-marked unmarked es ≡ doubled (all-pairs cs) = twice-means es (rw name small) ∙ ap doubled name in
+      let twice : any-taken untaken es ≡ doubled (all-pairs cs) = twice-means es (rw name small) ∙ ap doubled name in
       let there : length (first-pairs ss ns ms rules) ≡ length (pairs p) = ap length (stored-pairs p (j .symbols) rules ar ss ns ms (j .stored)) in
       counted-once p (all-pairs cs) (read-pairs p ds cs (j .read)) ∙ sym (rw (as-many, there, twice) refl)
 
   pub eight-counted : (length es ≡ length (first-pairs ss ns ms rules) → ⊥) → ordered p cs ≡ 8
   unfolding ordered
   eight-counted h =
-      let e = once-is ∙ ap (λ (b : Bool). b && not (any-marked unmarked es)) (ne-eqb _ _ h) in
+      let e = once-is ∙ ap (λ (b : Bool). b && not (any-taken untaken es)) (ne-eqb _ _ h) in
       ap (λ (b : Bool). cond b (cond (back-arc (plain p) [] cs) 9 0) 8) e
 
-  pub eight-twice : any-marked unmarked es ≡ true → ordered p cs ≡ 8
+  pub eight-twice : any-taken untaken es ≡ true → ordered p cs ≡ 8
   unfolding ordered
   eight-twice h =
       let same = eqb (length es) (length (first-pairs ss ns ms rules)) in
       let e = once-is ∙ ap (λ (b : Bool). same && not b) h ∙ and-false same in
       ap (λ (b : Bool). cond b (cond (back-arc (plain p) [] cs) 9 0) 8) e
 
-  module _ (count : length es ≡ length (first-pairs ss ns ms rules)) (single : any-marked unmarked es ≡ false) where
+  module _ (count : length es ≡ length (first-pairs ss ns ms rules)) (single : any-taken untaken es ≡ false) where
     once : each-once (pairs p) (all-pairs cs) ≡ true
-    once = once-is ∙ ap (λ (b : Bool). b && not (any-marked unmarked es)) (eq-eqb _ _ count) ∙ ap not single
+    once = once-is ∙ ap (λ (b : Bool). b && not (any-taken untaken es)) (eq-eqb _ _ count) ∙ ap not single
 
     then-arcs : ordered p cs ≡ cond (back-arc (plain p) [] cs) 9 0
     unfolding ordered

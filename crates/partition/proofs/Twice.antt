@@ -1,4 +1,4 @@
--- The marks tell whether a pair stands twice: a slot is marked exactly if its pair has been seen.
+-- The slots tell whether a pair stands twice: one is taken exactly if its pair has been seen.
 use mathlib.Core.Path.{_≡_, refl, sym, ap, _∙_}
 use mathlib.Core.Bool.{Bool, true, false, _||_, cond, or-false, or-true, or-assoc}
 use mathlib.Core.List.{List, [], _∷_, _++_, map, append-assoc, append-nil}
@@ -13,7 +13,7 @@ use Rattle.rewriting.proofs.Basics.{by-test, not-both, Each, each-head, each-ta
 use Rattle.pairs.specs.Listing.{a-pair, same-pair, count-pair}
 use Rattle.pairs.proofs.Listed.{same-pair-refl, same-pair-eq, count-append}
 use Rattle.entries.specs.declared.Entry.{Entry}
-use Rattle.partition.specs.Working.{doubled, named, slot, any-marked}
+use Rattle.partition.specs.Working.{doubled, named, slot, any-taken}
 use Rattle.partition.proofs.Counted.{same-pair-sym}
 use Rattle.partition.proofs.Named.{Small}
 
@@ -48,13 +48,13 @@ doubled-more (r ∷ qs) q =
 
 -- THE MARKS know the pairs seen
 
--- the slot is marked
-abbrev pub marked : (ms : List ℕ) → (at : ℕ) → Bool
-marked ms k = ltb 0 (getD ms k 0)
+-- the slot is taken
+abbrev pub taken : (ms : List ℕ) → (at : ℕ) → Bool
+taken ms k = ltb 0 (getD ms k 0)
 
 record Seen (ms : List ℕ) (qs : List Pair) : Type 0 where
   pub long : length ms ≡ 2048
-  pub tells : (i k : ℕ) → i < 64 → k < 32 → marked ms (32 * i + k) ≡ ltb 0 (count-pair (a-pair i k) qs)
+  pub tells : (i k : ℕ) → i < 64 → k < 32 → taken ms (32 * i + k) ≡ ltb 0 (count-pair (a-pair i k) qs)
 
 module _ (ms : List ℕ) (qs : List Pair) (q : Pair) (small : Small q) (seen : Seen ms qs) where
   abbrev own : ℕ
@@ -70,7 +70,7 @@ module _ (ms : List ℕ) (qs : List Pair) (q : Pair) (small : Small q) (seen : S
       let k-is : k ≡ q .place = omega arith in
       not-both (same-pair (a-pair i k) q) (rw (i-is, k-is) (same-pair-refl q)) other
 
-  tells-more : (i k : ℕ) → i < 64 → k < 32 → marked (set ms own 1) (32 * i + k) ≡ ltb 0 (count-pair (a-pair i k) (qs ++ (q ∷ [])))
+  tells-more : (i k : ℕ) → i < 64 → k < 32 → taken (set ms own 1) (32 * i + k) ≡ ltb 0 (count-pair (a-pair i k) (qs ++ (q ∷ [])))
   tells-more i k i-small k-small =
       by-test (same-pair (a-pair i k) q)
       (λ h.
@@ -88,20 +88,20 @@ module _ (ms : List ℕ) (qs : List Pair) (q : Pair) (small : Small q) (seen : S
   seen-more : Seen (set ms own 1) (qs ++ (q ∷ []))
   seen-more = record { long = length-set ms own 1 ∙ seen .long; tells = tells-more }
 
--- THE RUN: what stands twice among the pairs seen, or is found marked later
+-- THE RUN: what stands twice among the pairs seen, or is found taken later
 
 run : (es : List Entry) (ms : List ℕ) (qs : List Pair) → Each Small (map named es) → Seen ms qs →
-    (doubled qs || any-marked ms es) ≡ doubled (qs ++ map named es)
-unfolding any-marked
+    (doubled qs || any-taken ms es) ≡ doubled (qs ++ map named es)
+unfolding any-taken
 run [] ms qs small seen = rw (append-nil qs) (or-false (doubled qs))
 run (e ∷ es) ms qs small seen =
     let q = named e in
     rw (seen .tells (e .rule) (e .place) (each-head small .0) (each-head small .1), ← append-assoc qs (q ∷ []) (map named es))
-    (sym (or-assoc (doubled qs) (ltb 0 (count-pair q qs)) (any-marked (set ms (slot e) 1) es))
-    ∙ ap (λ (b : Bool). b || any-marked (set ms (slot e) 1) es) (sym (doubled-more qs q))
+    (sym (or-assoc (doubled qs) (ltb 0 (count-pair q qs)) (any-taken (set ms (slot e) 1) es))
+    ∙ ap (λ (b : Bool). b || any-taken (set ms (slot e) 1) es) (sym (doubled-more qs q))
     ∙ run es (set ms (slot e) 1) (qs ++ (q ∷ [])) (each-tail small) (seen-more ms qs q (each-head small) seen))
 
--- THE START, where no slot is marked; for any number of slots, so that the list of marks is not written out
+-- THE START, where no slot is taken; for any number of slots, so that their list is not written out
 
 fresh : (n : ℕ) → n ≡ 2048 → Seen (replicate n 0) []
 unfolding count-pair
@@ -111,10 +111,10 @@ fresh n h =
       tells = λ i k i-small k-small. ap (ltb 0) (getD-replicate {A = ℕ} n (32 * i + k) 0 0 (omega arith));
     }
 
--- no slot is marked
-unfoldable pub unmarked : List ℕ
-unmarked = replicate 2048 0
+-- no slot is taken
+unfoldable pub untaken : List ℕ
+untaken = replicate 2048 0
 
-pub twice-means : (es : List Entry) → Each Small (map named es) → any-marked unmarked es ≡ doubled (map named es)
-unfolding doubled unmarked
+pub twice-means : (es : List Entry) → Each Small (map named es) → any-taken untaken es ≡ doubled (map named es)
+unfolding doubled untaken
 twice-means es h = run es (replicate 2048 0) [] h (fresh 2048 refl)

@@ -41,10 +41,10 @@ named e = a-pair (e .rule) (e .place)
 abbrev pub slot : Entry → ℕ
 slot e = 32 * e .rule + e .place
 
--- some entry's slot is marked when its turn comes
-unfoldable pub any-marked : (seen : List ℕ) → List Entry → Bool
-any-marked seen [] = false
-any-marked seen (e ∷ es) = ltb 0 (getD seen (slot e) 0) || any-marked (set seen (slot e) 1) es
+-- some entry's slot is taken when its turn comes
+unfoldable pub any-taken : (seen : List ℕ) → List Entry → Bool
+any-taken seen [] = false
+any-taken seen (e ∷ es) = ltb 0 (getD seen (slot e) 0) || any-taken (set seen (slot e) 1) es
 
 -- the lowest component with a pair of rule s; 65535 if none has one
 unfoldable pub lowest : (s : ℕ) → List Entry → ℕ
@@ -95,9 +95,9 @@ unfoldable pub Names-pairs : System → List Entry → Type 0
 Names-pairs p es = (k : ℕ) → k < length es → is-pair p (named (getD es k none)) ≡ true
 
 -- a certificate that was read for a pack that is kept
-pub record Judgeable (p : System) (certificate : List ℕ) (components rules : ℕ) (arities starts nodes marks : List ℕ) : Type 0 where
+pub record Judgeable (p : System) (certificate : List ℕ) (components rules : ℕ) (arities starts nodes flags : List ℕ) : Type 0 where
   pub symbols : ℕ
-  pub stored : Stored p symbols rules arities starts nodes marks
+  pub stored : Stored p symbols rules arities starts nodes flags
   pub all : List Component
   pub read : read-certificate p certificate ≡ passed all
   pub counted : components ≡ length all

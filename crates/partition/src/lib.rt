@@ -27,12 +27,12 @@ fn lower(lows: &mut [u16], s: usize, number: u16)
     }
 }
 
-// Lowers the rule's lowest component to the entry's and marks the pair's slot. Says whether it was marked before.
+// Lowers the rule's lowest component to the entry's and takes the pair's slot. Says whether it was taken before.
 fn note(e: Entry, lows: &mut [u16], seen: &mut [u8]) -> bool
     requires { ⌜ slot e < length (now seen) ⌝ }
     ensures length { λ _. ⌜ length (now (lows .exit)) ≡ length (now (lows .entry)) ⌝ }
     ensures lowered { λ _. ⌜ ((t : ℕ) → t < length (now (lows .entry)) → getD (now (lows .exit)) t 0 ≡ cond (eqb (e .rule) t) (min (e .component) (getD (now (lows .entry)) t 0)) (getD (now (lows .entry)) t 0)) ⌝ }
-    ensures marks { λ r. ⌜ (r ≡ ltb 0 (getD (now (seen .entry)) (slot e) 0)) × (now (seen .exit) ≡ set (now (seen .entry)) (slot e) 1) ⌝ }
+    ensures takes { λ r. ⌜ (r ≡ ltb 0 (getD (now (seen .entry)) (slot e) 0)) × (now (seen .exit) ≡ set (now (seen .entry)) (slot e) 1) ⌝ }
 {
     lower(lows, e.rule as usize, e.component);
     let slot = 32 * (e.rule as usize) + e.place as usize;
@@ -72,15 +72,15 @@ fn back_from(
     arities: &[u8],
     starts: &[u16],
     nodes: &[u8],
-    marks: &[u8],
+    defined: &[u8],
     rules: usize,
     keys: &[u32],
     roots: &[u16],
     right: usize,
     own: u16,
 ) -> bool
-    requires { ⌜ Kept-pack rules (now arities) (now starts) (now nodes) (now marks) × ((lows : List ℕ) × Keyed rules (now starts) (now nodes) lows (now keys) (now roots)) × ((p : System) × (q : Pair) × Pair-kept p q rules (now arities) (now starts) (now nodes) (now marks) right) ⌝ }
-    ensures { λ r. ⌜ ((p : System) (q : Pair) (lows : List ℕ) → Pair-kept p q rules (now (arities .entry)) (now (starts .entry)) (now (nodes .entry)) (now (marks .entry)) right → Keyed rules (now (starts .entry)) (now (nodes .entry)) lows (now (keys .entry)) (now (roots .entry)) → r ≡ back-to p lows own q rules) ⌝ }
+    requires { ⌜ Kept-pack rules (now arities) (now starts) (now nodes) (now defined) × ((lows : List ℕ) × Keyed rules (now starts) (now nodes) lows (now keys) (now roots)) × ((p : System) × (q : Pair) × Pair-kept p q rules (now arities) (now starts) (now nodes) (now defined) right) ⌝ }
+    ensures { λ r. ⌜ ((p : System) (q : Pair) (lows : List ℕ) → Pair-kept p q rules (now (arities .entry)) (now (starts .entry)) (now (nodes .entry)) (now (defined .entry)) right → Keyed rules (now (starts .entry)) (now (nodes .entry)) lows (now (keys .entry)) (now (roots .entry)) → r ≡ back-to p lows own q rules) ⌝ }
 {
     let c = nodes[right];
     // No rule with this root has a lower component.
@@ -93,7 +93,7 @@ fn back_from(
     while s < rules {
         // One test for both: the rule has this root, and a component below `own`.
         if std::num::wrapping_sub_u32(keys[s], from) < own as u32 {
-            if pair_finder::arcs::arc_to(arities, starts, nodes, marks, right, end, s) {
+            if pair_finder::arcs::arc_to(arities, starts, nodes, defined, right, end, s) {
                 return true;
             }
         }
@@ -108,20 +108,20 @@ fn back_from_entry(
     arities: &[u8],
     starts: &[u16],
     nodes: &[u8],
-    marks: &[u8],
+    defined: &[u8],
     rules: usize,
     keys: &[u32],
     roots: &[u16],
 ) -> bool
-    requires { ⌜ Kept-pack rules (now arities) (now starts) (now nodes) (now marks) × ((lows : List ℕ) × Keyed rules (now starts) (now nodes) lows (now keys) (now roots)) × ((p : System) × (symbols : ℕ) × Stored p symbols rules (now arities) (now starts) (now nodes) (now marks) × (is-pair p (named e) ≡ true)) ⌝ }
-    ensures { λ r. ⌜ ((p : System) (symbols : ℕ) (lows : List ℕ) → Stored p symbols rules (now (arities .entry)) (now (starts .entry)) (now (nodes .entry)) (now (marks .entry)) → is-pair p (named e) ≡ true → Keyed rules (now (starts .entry)) (now (nodes .entry)) lows (now (keys .entry)) (now (roots .entry)) → r ≡ back-at p lows rules e) ⌝ }
+    requires { ⌜ Kept-pack rules (now arities) (now starts) (now nodes) (now defined) × ((lows : List ℕ) × Keyed rules (now starts) (now nodes) lows (now keys) (now roots)) × ((p : System) × (symbols : ℕ) × Stored p symbols rules (now arities) (now starts) (now nodes) (now defined) × (is-pair p (named e) ≡ true)) ⌝ }
+    ensures { λ r. ⌜ ((p : System) (symbols : ℕ) (lows : List ℕ) → Stored p symbols rules (now (arities .entry)) (now (starts .entry)) (now (nodes .entry)) (now (defined .entry)) → is-pair p (named e) ≡ true → Keyed rules (now (starts .entry)) (now (nodes .entry)) lows (now (keys .entry)) (now (roots .entry)) → r ≡ back-at p lows rules e) ⌝ }
 {
     let right = starts[2 * (e.rule as usize) + 1] as usize + e.place as usize;
     back_from(
         arities,
         starts,
         nodes,
-        marks,
+        defined,
         rules,
         keys,
         roots,
@@ -138,14 +138,14 @@ pub fn judge(
     arities: &[u8],
     starts: &[u16],
     nodes: &[u8],
-    marks: &[u8],
+    defined: &[u8],
 ) -> Answer
-    requires { ⌜ (length (now certificate) % 8 ≡ 0) × (length (now certificate) ≤ 24576) × Kept-pack rules (now arities) (now starts) (now nodes) (now marks) × ((p : System) × Judgeable p (now certificate) components rules (now arities) (now starts) (now nodes) (now marks)) ⌝ }
-    ensures { λ r. ⌜ ((p : System) (j : Judgeable p (now (certificate .entry)) components rules (now (arities .entry)) (now (starts .entry)) (now (nodes .entry)) (now (marks .entry))) → Ordered-as p (j .all) r) ⌝ }
+    requires { ⌜ (length (now certificate) % 8 ≡ 0) × (length (now certificate) ≤ 24576) × Kept-pack rules (now arities) (now starts) (now nodes) (now defined) × ((p : System) × Judgeable p (now certificate) components rules (now arities) (now starts) (now nodes) (now defined)) ⌝ }
+    ensures { λ r. ⌜ ((p : System) (j : Judgeable p (now (certificate .entry)) components rules (now (arities .entry)) (now (starts .entry)) (now (nodes .entry)) (now (defined .entry))) → Ordered-as p (j .all) r) ⌝ }
 {
     let store = entries::keep(certificate);
     let n = store.count;
-    if n != pair_finder::listing::count_pairs(starts, nodes, marks, rules) {
+    if n != pair_finder::listing::count_pairs(starts, nodes, defined, rules) {
         return Answer::Refused(Refusal::PairCount);
     }
     let mut lows = [65535u16; 64];
@@ -169,7 +169,7 @@ pub fn judge(
     i = 0;
     while i < n {
         let e = store.entries[i];
-        if back_from_entry(e, arities, starts, nodes, marks, rules, &keys, &roots) {
+        if back_from_entry(e, arities, starts, nodes, defined, rules, &keys, &roots) {
             return Answer::Refused(Refusal::BackArc);
         }
         i = i + 1;

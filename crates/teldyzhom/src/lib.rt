@@ -32,8 +32,8 @@ fn judge_files(pack: &[u8], certificate: &[u8]) -> Checked
     let mut arities = [0u8; 64];
     let mut starts = [0u16; 129];
     let mut nodes = [0u8; 4096];
-    let mut marks = [0u8; 64];
-    match pack_reader::read_pack(pack, &mut arities, &mut starts, &mut nodes, &mut marks) {
+    let mut defined = [0u8; 64];
+    match pack_reader::read_pack(pack, &mut arities, &mut starts, &mut nodes, &mut defined) {
         PackRead::Refused(x) => Checked::Refused(x),
         PackRead::Read(c) => {
             let symbols = c.symbols;
@@ -45,7 +45,7 @@ fn judge_files(pack: &[u8], certificate: &[u8]) -> Checked
                 &arities,
                 &starts,
                 &nodes,
-                &marks,
+                &defined,
             ) {
                 Answer::Refused(x) => Checked::Refused(x),
                 Answer::Passed(components) => {
@@ -56,7 +56,7 @@ fn judge_files(pack: &[u8], certificate: &[u8]) -> Checked
                         &arities,
                         &starts,
                         &nodes,
-                        &marks,
+                        &defined,
                     ) {
                         Answer::Refused(x) => Checked::Refused(x),
                         Answer::Passed(_) => Checked::Accepted,
@@ -87,16 +87,16 @@ pub fn list_pairs(pack: &[u8], list: &mut [u8]) -> Answer
     let mut arities = [0u8; 64];
     let mut starts = [0u16; 129];
     let mut nodes = [0u8; 4096];
-    let mut marks = [0u8; 64];
-    match pack_reader::read_pack(pack, &mut arities, &mut starts, &mut nodes, &mut marks) {
+    let mut defined = [0u8; 64];
+    match pack_reader::read_pack(pack, &mut arities, &mut starts, &mut nodes, &mut defined) {
         PackRead::Refused(x) => Answer::Refused(x),
         PackRead::Read(c) => {
             let rules = c.rules;
-            let n = pair_finder::listing::count_pairs(&starts, &nodes, &marks, rules);
+            let n = pair_finder::listing::count_pairs(&starts, &nodes, &defined, rules);
             if list.len() / 8 < n {
                 return Answer::Refused(Refusal::ShortList);
             }
-            pair_finder::listing::write_pairs(list, &starts, &nodes, &marks, rules);
+            pair_finder::listing::write_pairs(list, &starts, &nodes, &defined, rules);
             Answer::Passed(n)
         }
     }
@@ -109,15 +109,15 @@ pub fn arc_runs(pack: &[u8], rule: u32, place: u32, other_rule: u32, other_place
     let mut arities = [0u8; 64];
     let mut starts = [0u16; 129];
     let mut nodes = [0u8; 4096];
-    let mut marks = [0u8; 64];
-    match pack_reader::read_pack(pack, &mut arities, &mut starts, &mut nodes, &mut marks) {
+    let mut defined = [0u8; 64];
+    match pack_reader::read_pack(pack, &mut arities, &mut starts, &mut nodes, &mut defined) {
         PackRead::Refused(x) => ArcAnswer::Refused(x),
         PackRead::Read(c) => {
             let rules = c.rules;
             match pair_finder::arcs::place_of(
                 &starts,
                 &nodes,
-                &marks,
+                &defined,
                 rules,
                 rule as usize,
                 place as usize,
@@ -127,7 +127,7 @@ pub fn arc_runs(pack: &[u8], rule: u32, place: u32, other_rule: u32, other_place
                     match pair_finder::arcs::place_of(
                         &starts,
                         &nodes,
-                        &marks,
+                        &defined,
                         rules,
                         other_rule as usize,
                         other_place as usize,
@@ -138,7 +138,7 @@ pub fn arc_runs(pack: &[u8], rule: u32, place: u32, other_rule: u32, other_place
                                 &arities,
                                 &starts,
                                 &nodes,
-                                &marks,
+                                &defined,
                                 right,
                                 other_rule as usize,
                             ) {

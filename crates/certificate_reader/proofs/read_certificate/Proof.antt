@@ -29,11 +29,11 @@ use Rattle.certificate_reader.proofs.read_certificate.Statement.{statem
 use Rattle.certificate_reader.proofs.read_certificate.Tie as tie
 
 abbrev Inv-loop : tie.InvT-loop
-Inv-loop certificate symbols rules arities starts nodes marks n s₀ i₀ s i =
-    (i ≤ n) × Sound-state s × (s .number ≤ i) × ((p : System) → Stored p symbols rules arities starts nodes marks → Told p (all-records certificate) i s)
+Inv-loop certificate symbols rules arities starts nodes flags n s₀ i₀ s i =
+    (i ≤ n) × Sound-state s × (s .number ≤ i) × ((p : System) → Stored p symbols rules arities starts nodes flags → Told p (all-records certificate) i s)
 
 abbrev μ-loop : tie.MeasureT-loop
-μ-loop certificate symbols rules arities starts nodes marks n s₀ i₀ s i = n - i
+μ-loop certificate symbols rules arities starts nodes flags n s₀ i₀ s i = n - i
 
 stray : tie.Need-returns Inv-loop μ-loop
 stray c =
@@ -88,7 +88,7 @@ module _ (c : tie.After-step Inv-loop μ-loop) where
   all = all-records (start .args .certificate .now)
 
   abbrev Holds : System → Type 0
-  Holds p = Stored p (start .args .symbols) (start .args .rules) (start .args .arities .now) (start .args .starts .now) (start .args .nodes .now) (start .args .marks .now)
+  Holds p = Stored p (start .args .symbols) (start .args .rules) (start .args .arities .now) (start .args .starts .now) (start .args .nodes .now) (start .args .defined .now)
 
   told : (p : System) → Holds p → Told p all i s
   told p stored = c .before .before .before .before .before .before .loop .inv .3 p stored

@@ -1,6 +1,6 @@
 -- `entries::keep` meets its contract: a walk of its MIR, by hand.
---     _4 = Entry { rule: 0, place: 0, component: 0 };  _2 = [_4; 2048];  _5 = &mut _2;  _6 = slice of _5 and 2048;  _3 = mark_all(_1, _6);  _7 = _2;  _0 = Store { entries: _7, count: _3 };  return
--- The array is lent for the call, and comes back with the entries marked, for the store. All that is known of `mark_all` is its contract.
+--     _4 = Entry { rule: 0, place: 0, component: 0 };  _2 = [_4; 2048];  _5 = &mut _2;  _6 = slice of _5 and 2048;  _3 = enter_all(_1, _6);  _7 = _2;  _0 = Store { entries: _7, count: _3 };  return
+-- The array is lent for the call, and comes back with the entries, for the store. All that is known of `enter_all` is its contract.
 -- The facts of the array are for any count n of entries, so that no check writes out 2048 of them.
 use mathlib.Core.Path.{_≡_, refl, sym, ap, subst, _∙_}
 use Prim.Native.Nat.{ℕ, zero, suc, _%_, _≤_, _<_, _^_}
@@ -58,10 +58,10 @@ use Rattle.entries.proofs.Entry as T
 use Rattle.entries.proofs.Entry.Laws as T′
 use Rattle.entries.proofs.Store as S
 use Rattle.entries.proofs.Store.Laws as S′
-use Rattle.entries.proofs.mark_all as mark-all
-use Rattle.entries.proofs.mark_all.Symbol as mark-all-def
-use Rattle.entries.proofs.mark_all.Symbol.{name as #entries·mark-all}
-use Rattle.entries.proofs.mark_all.Met as mark-all-thm
+use Rattle.entries.proofs.enter_all as enter-all
+use Rattle.entries.proofs.enter_all.Symbol as enter-all-def
+use Rattle.entries.proofs.enter_all.Symbol.{name as #entries·enter-all}
+use Rattle.entries.proofs.enter_all.Met as enter-all-thm
 use Rattle.entries.proofs.keep.Key.{name as #entries·keep}
 use Rattle.entries.proofs.keep as keeping
 use Rattle.entries.proofs.keep.Statement as stated
@@ -75,14 +75,14 @@ abbrev stayed : Stays (keeping.ended .signature .params) (keeping.ended .kept)
 stayed = (stay-none-slice (0 ∷ []) tt (plain (λ _. u8)) yes, tt)
 
 -- the contract that the proof cites
-abbrev MarkAll : {M : Type 1} (𝓤 : URA M) (H : Heap 𝓤) (A : Atoms 𝓤) (mem : Memory → SProp 𝓤) (run : Routine → Fun 𝓤) → Contract 𝓤
-MarkAll 𝓤 H A mem run = tripleOf 𝓤 H A mark-all.signature (mark-all.spec 𝓤 H A mem run)
+abbrev EnterAll : {M : Type 1} (𝓤 : URA M) (H : Heap 𝓤) (A : Atoms 𝓤) (mem : Memory → SProp 𝓤) (run : Routine → Fun 𝓤) → Contract 𝓤
+EnterAll 𝓤 H A mem run = tripleOf 𝓤 H A enter-all.signature (enter-all.spec 𝓤 H A mem run)
 
 -- an operand that is a literal too great for `lit`
 big : {M : Type 1} {𝓤 : URA M} {H : Heap 𝓤} {A : Atoms 𝓤} {K : Type 0} {W : Given 𝓤 H A} {Γ : List (Item 𝓤)} {E : Env 𝓤 H} → K → {w : Width} {n : ℕ} → Fits w n → Opd K W Γ E (intBig w n) (vint w n)
 big {𝓤 = 𝓤} t {w} {n} fits = record { go = λ Kt h. via 𝓤 (Kt (vint w n)) h (guardI 𝓤 (Fits w n) (Kt (vint w n)) fits) }
 
--- AN ARRAY OF n ENTRIES, none of them marked
+-- AN ARRAY OF n ENTRIES, none of them entered yet
 
 abbrev empty : Val
 empty = T′.lowered none
@@ -200,9 +200,9 @@ module _ {M : Type 1} (𝓤 : URA M) (H : Heap 𝓤) (A : Atoms 𝓤) (W : Given
   File = ShrSlice (named 0) κ u8 .own s (slice ∷ [])
 
   abbrev Callee : Contract 𝓤
-  Callee = MarkAll 𝓤 H A at-mem run
+  Callee = EnterAll 𝓤 H A at-mem run
 
-  -- the call of `mark_all`, at the array in the local l, lent for ν under the name γ: what it is passed, what it asks, and what it ensures
+  -- the call of `enter_all`, at the array in the local l, lent for ν under the name γ: what it is passed, what it asks, and what it ensures
   module _ (l ν : ℕ) (γ : GName) where
     abbrev Tokens : Fml
     Tokens = fsep (flft κ q) (fsep (flft (ν ∷ []) fullShare) ftrue)
@@ -218,10 +218,10 @@ module _ {M : Type 1} (𝓤 : URA M) (H : Heap 𝓤) (A : Atoms 𝓤) (W : Given
         qed W (‵ Tokens ∷ ‵ File ∷ ‵ (Ref 2048 l ν γ) ∷ []) ∵ says ! (ok .0, ok .1, length-replicate 2048 none) $ frame ! $ nothing ! $ move ! (2 ∷ 0 ∷ []) $ fjoin ! $ move ! (1 ∷ 0 ∷ []) $ fjoin ! $ done !
 
     abbrev Ensured : ℕ → SProp 𝓤
-    Ensured r = ensured 𝓤 H A mark-all.ended (mark-all.clauses 𝓤 H A at-mem run) (κ, (ν ∷ [], tt)) passed tt r
+    Ensured r = ensured 𝓤 H A enter-all.ended (enter-all.clauses 𝓤 H A at-mem run) (κ, (ν ∷ [], tt)) passed tt r
 
-    abbrev Last : Lasts mark-all.ended (κ, (ν ∷ [], tt)) passed → Fml
-    Last ws = lasts mark-all.ended (κ, (ν ∷ [], tt)) passed ws
+    abbrev Last : Lasts enter-all.ended (κ, (ν ∷ [], tt)) passed → Fml
+    Last ws = lasts enter-all.ended (κ, (ν ∷ [], tt)) passed ws
 
   -- what is there at the end: the token, and what s owns
   abbrev End : List (Item 𝓤)
@@ -233,7 +233,7 @@ module _ {M : Type 1} (𝓤 : URA M) (H : Heap 𝓤) (A : Atoms 𝓤) (W : Given
       says ! said $ owned ! S.the-row (Is S.the-row) (LL.makes S.the-type S′.the-plain 𝓤 H A) (record { count = r; entries = es }) _ (store-is r es v fits is) $
       nothing ! $ nothing ! $ move ! (3 ∷ 0 ∷ []) $ join ! $ frame ! $ move ! (2 ∷ 0 ∷ []) $ fjoin ! $ done !
 
-  module _ (C : Calls 𝓤 H) (Λ : Loops 𝓤 H) (fm : FmC 𝓤 H (W .laws) C) (known : Triple 𝓤 (C #entries·mark-all) Callee) where
+  module _ (C : Calls 𝓤 H) (Λ : Loops 𝓤 H) (fm : FmC 𝓤 H (W .laws) C) (known : Triple 𝓤 (C #entries·enter-all) Callee) where
     walk : ent 𝓤 (onEntry 𝓤 H A keeping.signature (κ, tt) (q, tt) x at) (WpFn 𝓤 H C Λ code.function (Walk .args y) (Walk .post y))
     walk =
         qed W ((‵ (flft κ q) ⊛ ‵ ftrue) ∷ ‵ (owns (ShrSlice (named 0) κ u8 ∷ []) x at) ∷ []) ∵ enter ! C Λ code.function (Walk .args y) _ $
@@ -271,7 +271,7 @@ module _ {M : Type 1} (𝓤 : URA M) (H : Heap 𝓤) (A : Atoms 𝓤) (W : Given
         keep ! (0 ∷ 1 ∷ []) $ by ! (exits r (ws .1 .0) v (r-is .1) is said))))))))))))))))))
 
 keep-meets : {M : Type 1} (𝓤 : URA M) (H : Heap 𝓤) (A : Atoms 𝓤) (W : Given 𝓤 H A) (mem : Memory → SProp 𝓤) (run : Routine → Fun 𝓤) (𝓣 : Tables 𝓤 H)
-    → Triple 𝓤 (𝓣 .C #entries·mark-all) (MarkAll 𝓤 H A mem run) → Meets 𝓤 H A keeping.signature (WpFn 𝓤 H (𝓣 .C) (𝓣 .Λ) code.function) (keeping.spec 𝓤 H A mem run)
+    → Triple 𝓤 (𝓣 .C #entries·enter-all) (EnterAll 𝓤 H A mem run) → Meets 𝓤 H A keeping.signature (WpFn 𝓤 H (𝓣 .C) (𝓣 .Λ) code.function) (keeping.spec 𝓤 H A mem run)
 keep-meets 𝓤 H A W mem run 𝓣 known =
     meets-by 𝓤 H A W keeping.ended stayed (keeping.clauses 𝓤 H A mem run) 𝓣 code.function (λ κs. (slice-vals, tt))
     (goes-none-slice 𝓤 H A W 1 (0 ∷ []) tt (plain (λ _. u8)) yes, tt)
@@ -285,4 +285,4 @@ keep-spec 𝓤 H 𝓜 𝓖 𝓡 =
     entered 𝓤 H (tripleOf 𝓤 H (𝓖 .A) keeping.signature (keeping.spec 𝓤 H (𝓖 .A) (𝓜 .mem) (𝓡 .run)))
     (tables 𝓤 H 𝓜 𝓡 code.env .C) (tables 𝓤 H 𝓜 𝓡 code.env .Λ) #entries·keep code.function (code.unfolded 𝓤 H 𝓜 𝓡)
     (keep-meets 𝓤 H (𝓖 .A) (givenOf 𝓤 H 𝓜 𝓖) (𝓜 .mem) (𝓡 .run) (tablesOf 𝓤 H 𝓜 (tables 𝓤 H 𝓜 𝓡 code.env))
-    (cited 𝓤 H (MarkAll 𝓤 H (𝓖 .A) (𝓜 .mem) (𝓡 .run)) 𝓜 𝓡 code.env #entries·mark-all mark-all-def.routine code.calls-entries·mark-all (mark-all-thm.met 𝓤 H 𝓜 𝓖 𝓡)))
+    (cited 𝓤 H (EnterAll 𝓤 H (𝓖 .A) (𝓜 .mem) (𝓡 .run)) 𝓜 𝓡 code.env #entries·enter-all enter-all-def.routine code.calls-entries·enter-all (enter-all-thm.met 𝓤 H 𝓜 𝓖 𝓡)))

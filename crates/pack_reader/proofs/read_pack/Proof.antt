@@ -53,8 +53,8 @@ no-rules c =
     let n = c .before .before .before .before .before .before .before in
     refuses _ _ _ _ _ _ (rules-refused _ _ _ _ _ (symbols (n .before .before .before .before .before)) _ _ _ (n .read-rules .ensures) (c .before .x2 .given .1))
 
-to-mark : tie.Need-mark-defined-requires
-to-mark c κs =
+to-flag : tie.Need-flag-defined-requires
+to-flag c κs =
     let q = c .before .before .before .before in
     let n = q .before .before .before .before .before .before in
     let start = n .before .before .before .before .before .before .before .before .before .before .before .before .before .before .before .before .before .before in
@@ -74,7 +74,7 @@ all-read c =
     let k = s .before .before .before .before in
     let start = k .before .before .before .before .before .before .before .before .before in
     reads-all _ (d .system) _ _ _ _ _ (d .read)
-    (stored _ _ _ _ _ _ _ _ _ d _ (omega (arith, k .read-symbols .kept, start .pre, symbols s .few)) (m .mark-defined .ensures))
+    (stored _ _ _ _ _ _ _ _ _ d _ (omega (arith, k .read-symbols .kept, start .pre, symbols s .few)) (m .flag-defined .ensures))
 
 pub read-pack-spec : {M : Type 1} → statement M
 read-pack-spec =
@@ -88,7 +88,7 @@ read-pack-spec =
     (λ c κs. let d = symbols (c .before .before .before .before) in (omega (arith, c .before .before .before .before .before .before .before .before .read-symbols .kept), d .next))
     (λ c. search needs)
     (λ c. search needs)
-    to-mark
+    to-flag
     (λ c. search needs)
     no-symbols
     (λ c. search needs)

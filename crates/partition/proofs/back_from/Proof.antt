@@ -26,13 +26,13 @@ use Rattle.partition.proofs.back_from.Statement.{statement}
 use Rattle.partition.proofs.back_from.Tie as tie
 
 abbrev Inv-loop : tie.InvT-loop
-Inv-loop arities starts nodes marks rules keys roots right own c end from s₀ s =
+Inv-loop arities starts nodes flags rules keys roots right own c end from s₀ s =
     (s ≤ rules)
-    × ((p : System) (q : Pair) (lows : List ℕ) → Pair-kept p q rules arities starts nodes marks right → Keyed rules starts nodes lows keys roots →
+    × ((p : System) (q : Pair) (lows : List ℕ) → Pair-kept p q rules arities starts nodes flags right → Keyed rules starts nodes lows keys roots →
     back-to p lows own q s ≡ false)
 
 abbrev μ-loop : tie.MeasureT-loop
-μ-loop arities starts nodes marks rules keys roots right own c end from s₀ s = rules - s
+μ-loop arities starts nodes flags rules keys roots right own c end from s₀ s = rules - s
 
 one-more : (p : System) (q : Pair) (ls : List ℕ) (own s : ℕ) → back-to p ls own q s ≡ false → (ltb (getD ls s 0) own && arc p q (a-pair s 0)) ≡ false → back-to p ls own q (suc s) ≡ false
 unfolding back-to
@@ -45,7 +45,7 @@ module _ (c : tie.Start Inv-loop μ-loop) where
       let a = c .args in
       let w = c .pre .2 in
       let h : w .1 .at-rule < a .rules = omega (arith, pair-rule (w .0) (w .1) (w .2 .is), w .2 .stored .rules-are) in
-      right-at _ _ _ _ _ _ (asked-of (w .0) (w .1) (a .rules) (a .arities .now) (a .starts .now) (a .nodes .now) (a .marks .now) (a .right) (w .1 .at-rule) (w .2) h)
+      right-at _ _ _ _ _ _ (asked-of (w .0) (w .1) (a .rules) (a .arities .now) (a .starts .now) (a .nodes .now) (a .defined .now) (a .right) (w .1 .at-rule) (w .2) h)
 
   small : getD (c .args .nodes .now) (c .args .right) 0 < 64
   small = let w = c .pre .2 in root-small (w .0) (w .1) _ _ _ _ _ _ (w .2)
@@ -68,10 +68,10 @@ asked c κs =
     let w = start .pre .2 in (
       pack .arities-long,
       pack .laid .starts-long,
-      pack .marks-long,
+      pack .flags-long,
       omega (arith, pack .nodes-long),
       turn .before .before .skip .ensures,
-      asked-of (w .0) (w .1) (a .rules) (a .arities .now) (a .starts .now) (a .nodes .now) (a .marks .now) (a .right) (l .s) (w .2) (turn .loop-test .taken),
+      asked-of (w .0) (w .1) (a .rules) (a .arities .now) (a .starts .now) (a .nodes .now) (a .defined .now) (a .right) (l .s) (w .2) (turn .loop-test .taken),
     )
 
 found : tie.Need-returns-2 Inv-loop μ-loop
@@ -88,7 +88,7 @@ found c = λ p q lows k keyed.
     (keys .small (l .s) h) (start .fits .own .fits) (lower .if2 .taken) in
     sym
     (back-to-some p lows (a .own) q (l .s) (a .rules) h (lt-ltb _ _ less)
-    (sym (c .before .arc-to .ensures (asked-of p q (a .rules) (a .arities .now) (a .starts .now) (a .nodes .now) (a .marks .now) (a .right) (l .s) k h)) ∙ c .if3 .taken))
+    (sym (c .before .arc-to .ensures (asked-of p q (a .rules) (a .arities .now) (a .starts .now) (a .nodes .now) (a .defined .now) (a .right) (l .s) k h)) ∙ c .if3 .taken))
 
 -- either no arc leads to the rule, or it has another root or no lower component
 again : tie.Need-loop-again Inv-loop μ-loop
@@ -105,7 +105,7 @@ again c =
           (one-more p q lows (a .own) (l .s) (l .inv .1 p q lows k keyed)
           (⊎-elim
           (λ w.
-          let n = sym (w .1 .ensures (asked-of p q (a .rules) (a .arities .now) (a .starts .now) (a .nodes .now) (a .marks .now) (a .right) (l .s) k h)) ∙ w .2 .left in
+          let n = sym (w .1 .ensures (asked-of p q (a .rules) (a .arities .now) (a .starts .now) (a .nodes .now) (a .defined .now) (a .right) (l .s) k h)) ∙ w .2 .left in
           ap (λ (b : Bool). ltb (getD lows (l .s) 0) (a .own) && b) n ∙ and-false (ltb (getD lows (l .s) 0) (a .own)))
           (λ w.
           not-back p q (a .rules) _ _ _ _ (a .right) k lows (a .own) (l .s) h

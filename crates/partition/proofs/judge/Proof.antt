@@ -14,9 +14,9 @@ use Rattle.pair_finder.specs.Walking.{first-pairs}
 use Rattle.entries.specs.declared.Entry.{Entry}
 use Rattle.entries.specs.declared.Store.{Store}
 use Rattle.entries.specs.Entries.{none, entries-of}
-use Rattle.partition.specs.Working.{named, slot, any-marked, lowest, any-back, Begun, Keyed, Names-pairs, Judgeable, ordered, Ordered-as}
+use Rattle.partition.specs.Working.{named, slot, any-taken, lowest, any-back, Begun, Keyed, Names-pairs, Judgeable, ordered, Ordered-as}
 use Rattle.partition.proofs.Counted.{pairs-few}
-use Rattle.partition.proofs.Twice.{unmarked}
+use Rattle.partition.proofs.Twice.{untaken}
 use Rattle.partition.proofs.Noting.{Noted, start, again, first, none-again, all-lowest}
 use Rattle.partition.proofs.Searching.{found, not-here, nowhere}
 use Rattle.partition.proofs.FromRead.{pair-small}
@@ -31,21 +31,21 @@ of-certificate ds = entries-of 0 (all-records ds)
 
 -- the entries before i are noted
 abbrev Inv-loop : tie.InvT-loop
-Inv-loop certificate components rules arities starts nodes marks store n lows₀ seen₀ i₀ lows seen i =
+Inv-loop certificate components rules arities starts nodes flags store n lows₀ seen₀ i₀ lows seen i =
     (i ≤ n) × Noted (of-certificate certificate) lows seen i
 
 abbrev μ-loop : tie.MeasureT-loop
-μ-loop certificate components rules arities starts nodes marks store n lows₀ seen₀ i₀ lows seen i = n - i
+μ-loop certificate components rules arities starts nodes flags store n lows₀ seen₀ i₀ lows seen i = n - i
 
 -- an arc leads back from one of the entries from i on exactly if one does from some entry
 abbrev Inv-loop2 : tie.InvT-loop2
-Inv-loop2 certificate components rules arities starts nodes marks store n i₀ keys roots i =
+Inv-loop2 certificate components rules arities starts nodes flags store n i₀ keys roots i =
     (i ≤ n)
-    × ((p : System) (symbols : ℕ) (lows : List ℕ) → Stored p symbols rules arities starts nodes marks → Names-pairs p (of-certificate certificate) → Keyed rules starts nodes lows keys roots →
+    × ((p : System) (symbols : ℕ) (lows : List ℕ) → Stored p symbols rules arities starts nodes flags → Names-pairs p (of-certificate certificate) → Keyed rules starts nodes lows keys roots →
     any-back p lows rules (drop i (of-certificate certificate)) ≡ any-back p lows rules (of-certificate certificate))
 
 abbrev μ-loop2 : tie.MeasureT-loop2
-μ-loop2 certificate components rules arities starts nodes marks store n i₀ keys roots i = n - i
+μ-loop2 certificate components rules arities starts nodes flags store n i₀ keys roots i = n - i
 
 -- AFTER THE COUNT: the entries that are kept are all of them, and there are as many as pairs
 module _ (c : tie.Else1 Inv-loop μ-loop Inv-loop2 μ-loop2) where
@@ -61,11 +61,11 @@ module _ (c : tie.Else1 Inv-loop μ-loop Inv-loop2 μ-loop2) where
   many : store .count ≡ length es
   many = c .before .before .keep .ensures .counted
 
-  count : length es ≡ length (first-pairs (begin .args .starts .now) (begin .args .nodes .now) (begin .args .marks .now) (begin .args .rules))
+  count : length es ≡ length (first-pairs (begin .args .starts .now) (begin .args .nodes .now) (begin .args .defined .now) (begin .args .rules))
   count = sym many ∙ c .if1 .left ∙ c .before .count-pairs .ensures
 
   few : store .count ≤ 2048
-  few = omega (arith, many, count, pairs-few (begin .args .starts .now) (begin .args .nodes .now) (begin .args .marks .now) (begin .args .rules) (begin .pre .2 .laid))
+  few = omega (arith, many, count, pairs-few (begin .args .starts .now) (begin .args .nodes .now) (begin .args .defined .now) (begin .args .rules) (begin .pre .2 .laid))
 
   module _ (k : ℕ) (h : k < store .count) where
     within : k < length es
@@ -94,7 +94,7 @@ module _ (c : tie.After-loop Inv-loop μ-loop Inv-loop2 μ-loop2) where
   past-all : length (es counted) ≤ c .before .loop .i
   past-all = omega (arith, many counted, c .loop-test .left)
 
-  single : any-marked unmarked (es counted) ≡ false
+  single : any-taken untaken (es counted) ≡ false
   single = none-again _ _ _ _ past-all (c .before .loop .inv .1)
 
   lowest-found : (s : ℕ) → s < 64 → getD (c .before .loop .lows) s 0 ≡ lowest s (es counted)
@@ -124,7 +124,7 @@ module _ (c : tie.After-roots2 Inv-loop μ-loop Inv-loop2 μ-loop2) where
   keyed : Keyed (opened .args .rules) (opened .args .starts .now) (opened .args .nodes .now) lows keys roots
   keyed = record { keys-are = c .before .before .before .before .before .keep-keys .ensures; roots-are = c .before .lowest-of-roots .ensures }
 
-  module _ (p : System) (j : Judgeable p (opened .args .certificate .now) (opened .args .components) (opened .args .rules) (opened .args .arities .now) (opened .args .starts .now) (opened .args .nodes .now) (opened .args .marks .now)) where
+  module _ (p : System) (j : Judgeable p (opened .args .certificate .now) (opened .args .components) (opened .args .rules) (opened .args .arities .now) (opened .args .starts .now) (opened .args .nodes .now) (opened .args .defined .now)) where
     names-all : Names-pairs p (es (counted looped))
     names-all = names p (opened .args .certificate .now) (opened .args .components) (opened .args .rules) _ _ _ _ j
 

@@ -62,7 +62,7 @@ to-judge c κs =
       record {
         laid = stored-laid _ _ _ _ _ _ _ (k .stored) (omega (arith, r .read-pack .kept));
         arities-long = omega (arith, r .read-pack .kept);
-        marks-long = omega (arith, r .read-pack .kept);
+        flags-long = omega (arith, r .read-pack .kept);
         nodes-long = omega (arith, r .read-pack .kept);
       },
       (k .system, judgeable _ _ _ _ _ _ _ k _ (found f)),

@@ -1,4 +1,4 @@
--- `certificate_reader::steps::is_marked_place` meets its contract: a place of the symbol, and then the symbol's mark.
+-- `certificate_reader::steps::is_marked_place` meets its contract: a place of the symbol, and then the symbol's flag.
 use mathlib.Core.Path.{sym, _∙_}
 use native.Mathlib.Omega.{arith}
 use borrow.Author.Needs.{needs}
@@ -10,7 +10,7 @@ use Rattle.certificate_reader.proofs.steps.is_marked_place.Tie as tie
 no-place : tie.Need-returns
 no-place c = let placed = c .before .is-place in rw (← (placed .ensures), not-true (placed .result) (c .if1 .taken))
 
-small : tie.Need-cast-is-marked
+small : tie.Need-cast-is-defined
 small c =
     let start = c .before .before .before .before .before in
     let placed = c .before .before .is-place in
@@ -20,7 +20,7 @@ small c =
 a-place : tie.Need-returns-2
 a-place c =
     let placed = c .before .before .before .is-place in
-    rw (← (placed .ensures), not-false (placed .result) (c .before .before .if1 .left)) (c .is-marked .ensures)
+    rw (← (placed .ensures), not-false (placed .result) (c .before .before .if1 .left)) (c .is-defined .ensures)
 
 pub is-marked-place-spec : {M : Type 1} → statement M
 is-marked-place-spec = tie.close (tie.spec (λ c κs. search needs) no-place small (λ c κs. search needs) a-place)

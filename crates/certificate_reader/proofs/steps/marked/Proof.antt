@@ -54,7 +54,7 @@ module _ (c : tie.After-is-marked-place) where
   abbrev start : tie.Start
   start = keyed .before .before .before .before .before
 
-  place-told : (p : System) (rules : ℕ) (starts nodes : List ℕ) → Stored p (start .args .symbols) rules (start .args .arities .now) starts nodes (start .args .marks .now) →
+  place-told : (p : System) (rules : ℕ) (starts nodes : List ℕ) → Stored p (start .args .symbols) rules (start .args .arities .now) starts nodes (start .args .defined .now) →
       is-place p (r keyed .a) (r keyed .b) && defined p (r keyed .a) ≡ c .is-marked-place .result
   place-told p rules starts nodes stored =
       marked-place-stored p _ rules _ starts nodes _ stored (r keyed .a) (r keyed .b) ∙ sym (c .is-marked-place .ensures)

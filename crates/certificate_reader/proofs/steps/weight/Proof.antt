@@ -24,7 +24,7 @@ use Rattle.certificate_reader.proofs.steps.weight.Tie as tie
 
 not-zero : tie.Need-returns
 unfolding weight-read
-not-zero c = (no-state _ StrayRecord, λ p rules starts nodes marks x d stored m is due kind. rw (ne-eqb _ _ (c .if1 .taken)) (stops StrayRecord))
+not-zero c = (no-state _ StrayRecord, λ p rules starts nodes flags x d stored m is due kind. rw (ne-eqb _ _ (c .if1 .taken)) (stops StrayRecord))
 
 -- the field is zero, and the key is made
 module _ (c : tie.After-key) where
@@ -53,17 +53,17 @@ module _ (c : tie.After-is-place) where
   abbrev start : tie.Start
   start = keyed .before .before .before .before
 
-  place-told : (p : System) (rules : ℕ) (starts nodes marks : List ℕ) → Stored p (start .args .symbols) rules (start .args .arities .now) starts nodes marks →
+  place-told : (p : System) (rules : ℕ) (starts nodes flags : List ℕ) → Stored p (start .args .symbols) rules (start .args .arities .now) starts nodes flags →
       is-place p (r keyed .a) (r keyed .b) ≡ c .is-place .result
-  place-told p rules starts nodes marks stored =
-      place-stored p _ rules _ starts nodes marks stored (r keyed .a) (r keyed .b) ∙ sym (c .is-place .ensures)
+  place-told p rules starts nodes flags stored =
+      place-stored p _ rules _ starts nodes flags stored (r keyed .a) (r keyed .b) ∙ sym (c .is-place .ensures)
 
 not-rising : tie.Need-returns-2
 unfolding weight-read
 not-rising c =
     let k = c .before .before in (
       no-state _ StrayRecord,
-      λ p rules starts nodes marks x d stored m is due kind. rw (zero-one k, key-told k x d is m, le-ltb _ _ (c .if2 .taken)) (stops StrayRecord),
+      λ p rules starts nodes flags x d stored m is due kind. rw (zero-one k, key-told k x d is m, le-ltb _ _ (c .if2 .taken)) (stops StrayRecord),
     )
 
 no-place : tie.Need-returns-3
@@ -72,8 +72,8 @@ no-place c =
     let place = c .before in
     let k = keyed place in (
       no-state _ OutOfRange,
-      λ p rules starts nodes marks x d stored m is due kind.
-          let none = place-told place p rules starts nodes marks stored ∙ not-true (place .is-place .result) (c .if3 .taken) in
+      λ p rules starts nodes flags x d stored m is due kind.
+          let none = place-told place p rules starts nodes flags stored ∙ not-true (place .is-place .result) (c .if3 .taken) in
           rw (zero-one k, key-told k x d is m, lt-ltb _ _ (place .before .if2 .left), none) (stops OutOfRange),
     )
 
@@ -84,8 +84,8 @@ a-weight c =
     let k = keyed place in
     let has = start place .pre .2 in (
       after-weight _ _ (omega arith) (omega arith) refl has refl,
-      λ p rules starts nodes marks x d stored m is due kind.
-          let one = place-told place p rules starts nodes marks stored ∙ not-false (place .is-place .result) (c .if3 .left) in
+      λ p rules starts nodes flags x d stored m is due kind.
+          let one = place-told place p rules starts nodes flags stored ∙ not-false (place .is-place .result) (c .if3 .left) in
           rw (zero-one k, key-told k x d is m, lt-ltb _ _ (place .before .if2 .left), one, kind)
           (answers _ _ (weight-mirrored _ x d is m _ _ _ (k .key .ensures .0) (small k) _ has)),
     )

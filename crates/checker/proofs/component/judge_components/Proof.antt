@@ -35,14 +35,14 @@ pub record Components-left (p : System) (cert : List ℕ) (all : List Component)
   pub number : components-refusal p (plain p) all ≡ components-refusal p (plain p) (drop i all)
 
 abbrev Inv-loop : tie.InvT-loop
-Inv-loop certificate components rules arities starts nodes marks table₀ before₀ at₀ i₀ table before at i =
+Inv-loop certificate components rules arities starts nodes flags table₀ before₀ at₀ i₀ table before at i =
     (i ≤ components)
     × Marked-is table []
-    × ((p : System) (a : Components-from p certificate components rules arities starts nodes marks) →
+    × ((p : System) (a : Components-from p certificate components rules arities starts nodes flags) →
     Components-left p certificate (a .all) at i × Rules-known p certificate at before table)
 
 abbrev μ-loop : tie.MeasureT-loop
-μ-loop certificate components rules arities starts nodes marks table₀ before₀ at₀ i₀ table before at i = components - i
+μ-loop certificate components rules arities starts nodes flags table₀ before₀ at₀ i₀ table before at i = components - i
 
 -- what a component's answer tells of its number
 answer-refused : (b : Bool) (m n k : ℕ) → refused k ≡ cond b (passed m) (refused n) → (b ≡ false) × (k ≡ n)

@@ -104,7 +104,7 @@ requires c κs =
     let known = start read .pre .3 in (
       kept .arities-long,
       kept .laid .starts-long,
-      kept .marks-long,
+      kept .flags-long,
       omega (arith, kept .nodes-long),
       asked (known .3) (known .4) (known .5) (known .6) (read .record-at .ensures),
     )

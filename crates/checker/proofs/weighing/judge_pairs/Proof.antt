@@ -48,15 +48,15 @@ kept-as :
 kept-as ar ns ts ss e f k = rw (e, f) k
 
 abbrev Inv-loop : tie.InvT-loop
-Inv-loop certificate from count arities table starts nodes marks rules sums₀ last₀ failed₀ i₀ sums last failed i =
+Inv-loop certificate from count arities table starts nodes flags rules sums₀ last₀ failed₀ i₀ sums last failed i =
     (i ≤ count)
     × Left-kept arities nodes table starts last sums
-    × ((p : System) (symbols : ℕ) (qs : List Pair) (ws vs : List Weight) → Stored p symbols rules arities starts nodes marks → All-pairs p qs →
+    × ((p : System) (symbols : ℕ) (qs : List Pair) (ws vs : List Weight) → Stored p symbols rules arities starts nodes flags → All-pairs p qs →
     Pairs-at certificate from qs → length qs ≡ count → Table-is table ws → Marked-is table vs →
     any (rule-over (weighting ws vs)) (p .rules) ≡ false → Pairs-left p qs ws vs i failed)
 
 abbrev μ-loop : tie.MeasureT-loop
-μ-loop certificate from count arities table starts nodes marks rules sums₀ last₀ failed₀ i₀ sums last failed i = count - i
+μ-loop certificate from count arities table starts nodes flags rules sums₀ last₀ failed₀ i₀ sums last failed i = count - i
 
 -- the record of pair i
 module _ {cert : List ℕ} {from : ℕ} {qs : List Pair} (there : Pairs-at cert from qs) (i : ℕ) (h : i < length qs) where

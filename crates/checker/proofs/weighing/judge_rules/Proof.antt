@@ -27,12 +27,12 @@ abbrev Rules-left : System → (weights marked : List Weight) → (i : ℕ) → 
 Rules-left p ws vs i failed = To-judge (rule-over (weighting ws vs)) (rules-hold (weighting ws vs)) (p .rules) (drop i (p .rules)) failed
 
 abbrev Inv-loop : tie.InvT-loop
-Inv-loop arities table starts nodes marks rules failed₀ i₀ failed i =
+Inv-loop arities table starts nodes flags rules failed₀ i₀ failed i =
     (i ≤ rules)
-    × ((p : System) (symbols : ℕ) (ws vs : List Weight) → Stored p symbols rules arities starts nodes marks → Table-is table ws → Rules-left p ws vs i failed)
+    × ((p : System) (symbols : ℕ) (ws vs : List Weight) → Stored p symbols rules arities starts nodes flags → Table-is table ws → Rules-left p ws vs i failed)
 
 abbrev μ-loop : tie.MeasureT-loop
-μ-loop arities table starts nodes marks rules failed₀ i₀ failed i = rules - i
+μ-loop arities table starts nodes flags rules failed₀ i₀ failed i = rules - i
 
 module _
     {p : System} {symbols rules : ℕ} {ar ss ns ms : List ℕ} (s : Stored p symbols rules ar ss ns ms) (ws vs : List Weight) (i : ℕ) {failed : Bool}

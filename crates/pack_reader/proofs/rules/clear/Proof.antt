@@ -10,10 +10,10 @@ use Rattle.pack_reader.proofs.rules.clear.Statement.{statement}
 use Rattle.pack_reader.proofs.rules.clear.Tie as tie
 
 abbrev Inv-loop : tie.InvT-loop
-Inv-loop marks₀ f₀ marks f = (f ≤ length marks) × (length marks ≡ length marks₀) × (take f marks ≡ replicate f 0)
+Inv-loop flags₀ f₀ flags f = (f ≤ length flags) × (length flags ≡ length flags₀) × (take f flags ≡ replicate f 0)
 
 abbrev μ-loop : tie.MeasureT-loop
-μ-loop marks₀ f₀ marks f = length marks - f
+μ-loop flags₀ f₀ flags f = length flags - f
 
 one-more : (xs : List ℕ) (f : ℕ) → f < length xs → take f xs ≡ replicate f 0 → take (f + 1) (set xs f 0) ≡ replicate (f + 1) 0
 one-more xs f h e = rw (← (replicate-append-replicate {A = ℕ} f 1 0), add-one f, take-suc-set xs f 0 h, e)
@@ -33,4 +33,4 @@ clear-spec =
     (λ c. simp length-set (omega arith))
     (λ c. let l = c .before .loop in (simp length-set (omega arith), simp length-set (omega arith), one-more _ (l .f) (c .loop-test .taken) (l .inv .2)))
     (λ c. omega arith)
-    (λ c. let l = c .before .loop in all (l .marks) (l .f) _ (c .loop-test .left) (l .inv .0) (l .inv .1) (l .inv .2)))
+    (λ c. let l = c .before .loop in all (l .defined) (l .f) _ (c .loop-test .left) (l .inv .0) (l .inv .1) (l .inv .2)))

@@ -60,7 +60,7 @@ returns-3 c =
     (omega arith)
     (c .if3 .taken)
 
--- both sides are terms and the left is no variable: the marks decide
+-- both sides are terms and the left is no variable: what was seen decides
 judged : (c : tie.Else3)
     → let r = c .before .before .before .before in
     let a = r .before .before .before .before .before .before .before .before .args in

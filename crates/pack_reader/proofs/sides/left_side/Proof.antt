@@ -1,5 +1,5 @@
 -- `pack_reader::sides::left_side` meets its contract. The loop's invariant: what is left is balanced for the terms still wanted
--- exactly if the whole is for one, and the marks are those of the nodes passed.
+-- exactly if the whole is for one, and the variables seen are those of the nodes passed.
 use mathlib.Core.Path.{_≡_, ap, refl, _∙_}
 use mathlib.Core.Logic.{⊎-elim}
 use mathlib.Core.Bool.{Bool, true, false≢true}
@@ -15,21 +15,21 @@ use Rattle.pack_reader.proofs.Seen.{seen-none, seen-same, seen-more}
 use Rattle.pack_reader.proofs.sides.left_side.Statement.{statement}
 use Rattle.pack_reader.proofs.sides.left_side.Tie as tie
 
-abbrev Marks : (ns : List ℕ) (from i : ℕ) → List Bool → Type 0
-Marks ns from i sn = (length sn ≡ 16) × Seen-in (part ns from i) sn
+abbrev Flags : (ns : List ℕ) (from i : ℕ) → List Bool → Type 0
+Flags ns from i sn = (length sn ≡ 16) × Seen-in (part ns from i) sn
 
 abbrev Inv-loop : tie.InvT-loop
-Inv-loop arities nodes from to seen₀ wanted₀ i₀ seen wanted i = Wanting arities nodes from to wanted i × Marks nodes from i seen
+Inv-loop arities nodes from to seen₀ wanted₀ i₀ seen wanted i = Wanting arities nodes from to wanted i × Flags nodes from i seen
 
 abbrev μ-loop : tie.MeasureT-loop
 μ-loop arities nodes from to seen₀ wanted₀ i₀ seen wanted i = to - i
 
 -- one node passed
-module _ (ns : List ℕ) (from i : ℕ) (sn : List Bool) (h : from ≤ i) (k : i < length ns) (m : Marks ns from i sn) where
-  at-variable : 64 ≤ getD ns i 0 → getD ns i 0 < 80 → Marks ns from (i + 1) (set sn (getD ns i 0 - 64) true)
+module _ (ns : List ℕ) (from i : ℕ) (sn : List Bool) (h : from ≤ i) (k : i < length ns) (m : Flags ns from i sn) where
+  at-variable : 64 ≤ getD ns i 0 → getD ns i 0 < 80 → Flags ns from (i + 1) (set sn (getD ns i 0 - 64) true)
   at-variable low high = (length-set sn _ true ∙ m .0, rw (part-last ns from i h k) (seen-more _ _ sn (m .0) low high (m .1)))
 
-  at-other : ((v : ℕ) → v < 16 → getD ns i 0 ≡ 64 + v → ⊥) → Marks ns from (i + 1) sn
+  at-other : ((v : ℕ) → v < 16 → getD ns i 0 ≡ 64 + v → ⊥) → Flags ns from (i + 1) sn
   at-other other = (m .0, rw (part-last ns from i h k) (seen-same _ _ sn other (m .1)))
 
 first : tie.Need-loop-holds Inv-loop μ-loop

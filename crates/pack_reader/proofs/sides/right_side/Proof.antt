@@ -1,5 +1,5 @@
 -- `pack_reader::sides::right_side` meets its contract. The loop's invariant: what is left is balanced for the terms still wanted
--- exactly if the whole is for one, and has all its marks, with the nodes passed, exactly if the whole has.
+-- exactly if the whole is for one, and has only variables seen, with the nodes passed, exactly if the whole has.
 use mathlib.Core.Path.{_≡_, refl, sym, _∙_}
 use mathlib.Core.Logic.{⊎-elim}
 use mathlib.Core.Bool.{Bool, true, false, _&&_, false≢true, and-false, and-true}
@@ -39,11 +39,11 @@ module _ (sn : List Bool) (ns : List ℕ) (from to i : ℕ) (b : Bool) (closed :
   at-neither : length sn ≡ 16 → 80 ≤ getD ns i 0 → Closed sn ns from to (i + 1) false
   at-neither long c = at-bad (rw (part-more ns i to h k) (seen-neither sn long _ _ c))
 
-  at-marked : 64 ≤ getD ns i 0 → getD sn (getD ns i 0 - 64) false ≡ true → Closed sn ns from to (i + 1) b
-  at-marked c e = at-good (rw (part-more ns i to h k) (seen-variable sn _ _ c ∙ rw e))
+  at-flagged : 64 ≤ getD ns i 0 → getD sn (getD ns i 0 - 64) false ≡ true → Closed sn ns from to (i + 1) b
+  at-flagged c e = at-good (rw (part-more ns i to h k) (seen-variable sn _ _ c ∙ rw e))
 
-  at-unmarked : 64 ≤ getD ns i 0 → getD sn (getD ns i 0 - 64) false ≡ false → Closed sn ns from to (i + 1) false
-  at-unmarked c e = at-bad (rw (part-more ns i to h k) (seen-variable sn _ _ c ∙ rw e))
+  at-unflagged : 64 ≤ getD ns i 0 → getD sn (getD ns i 0 - 64) false ≡ false → Closed sn ns from to (i + 1) false
+  at-unflagged c e = at-bad (rw (part-more ns i to h k) (seen-variable sn _ _ c ∙ rw e))
 
 all-passed : (sn : List Bool) (ns : List ℕ) (from to i : ℕ) (b : Bool) → Closed sn ns from to i b → to ≤ i → b ≡ all-seen sn (part ns from to)
 unfolding all-seen
@@ -67,8 +67,8 @@ again c =
     (⊎-elim
     (λ w. rw (w .2, w .3) (variable (w .0 .left), at-neither _ _ _ _ _ (l .closed) (l .inv .1) (t .loop-test .taken) inside (omega arith) (w .1 .taken)))
     (⊎-elim
-    (λ w. rw (w .4, w .5) (variable (w .0 .left), at-unmarked _ _ _ _ _ (l .closed) (l .inv .1) (t .loop-test .taken) inside (w .0 .left) (not-true _ (w .3 .taken))))
-    (λ w. rw (w .4, w .5) (variable (w .0 .left), at-marked _ _ _ _ _ (l .closed) (l .inv .1) (t .loop-test .taken) inside (w .0 .left) (not-false _ (w .3 .left))))))
+    (λ w. rw (w .4, w .5) (variable (w .0 .left), at-unflagged _ _ _ _ _ (l .closed) (l .inv .1) (t .loop-test .taken) inside (w .0 .left) (not-true _ (w .3 .taken))))
+    (λ w. rw (w .4, w .5) (variable (w .0 .left), at-flagged _ _ _ _ _ (l .closed) (l .inv .1) (t .loop-test .taken) inside (w .0 .left) (not-false _ (w .3 .left))))))
     (c .before .if2 .came)
 
 returns-2 : tie.Need-returns-2 Inv-loop μ-loop

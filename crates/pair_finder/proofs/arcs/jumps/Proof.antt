@@ -15,7 +15,7 @@ from-variable c = rw (lt-leb _ _ (c .before .if1 .left), le-leb _ _ (c .if2 .tak
 
 from-symbol : tie.Need-returns-3
 unfolding jumps
-from-symbol c = rw (lt-leb _ _ (c .before .before .if1 .left), lt-leb _ _ (c .before .if2 .left)) (c .is-marked .ensures)
+from-symbol c = rw (lt-leb _ _ (c .before .before .if1 .left), lt-leb _ _ (c .before .if2 .left)) (c .is-defined .ensures)
 
 pub jumps-spec : {M : Type 1} → statement M
 jumps-spec = tie.close (tie.spec to-variable from-variable (λ c κs. search needs) from-symbol)

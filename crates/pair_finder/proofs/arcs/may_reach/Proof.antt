@@ -18,11 +18,11 @@ use Rattle.pair_finder.proofs.arcs.may_reach.Statement.{statement}
 use Rattle.pair_finder.proofs.arcs.may_reach.Tie as tie
 
 abbrev Inv-loop : tie.InvT-loop
-Inv-loop arities marks nodes u end v i₀ k₀ i k =
-    (w : Walkable arities marks nodes u end v) → To-walk (w .system) arities marks nodes end (may-reach (w .system) (w .first) (w .other)) i k
+Inv-loop arities flags nodes u end v i₀ k₀ i k =
+    (w : Walkable arities flags nodes u end v) → To-walk (w .system) arities flags nodes end (may-reach (w .system) (w .first) (w .other)) i k
 
 abbrev μ-loop : tie.MeasureT-loop
-μ-loop arities marks nodes u end v i₀ k₀ i k = end - i
+μ-loop arities flags nodes u end v i₀ k₀ i k = end - i
 
 holds : tie.Need-loop-holds Inv-loop μ-loop
 holds c = λ w. record { firsts = w .first; others = w .other; lists = w .lists; same = refl }

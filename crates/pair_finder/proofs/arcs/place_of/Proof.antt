@@ -4,7 +4,7 @@ use native.Mathlib.Omega.{arith}
 use borrow.Author.Needs.{needs}
 use borrow.Author.Tests.{lt-ltb, le-ltb}
 use lib.ListN.{length, getD}
-use Rattle.pair_finder.specs.Walking.{is-marked, Place-answer}
+use Rattle.pair_finder.specs.Walking.{is-defined, Place-answer}
 use Rattle.pair_finder.proofs.FromStore.{stored-place}
 use Rattle.pair_finder.proofs.arcs.place_of.Statement.{statement}
 use Rattle.pair_finder.proofs.arcs.place_of.Tie as tie
@@ -26,19 +26,19 @@ found c p symbols arities s =
       stored-place p symbols _ arities _ _ _ s _ _,
       lt-ltb _ _ (b .before .before .before .if1 .left),
       lt-ltb _ _ (b .if2 .left),
-      ← (c .before .is-marked .ensures),
+      ← (c .before .is-defined .ensures),
       c .if3 .taken,
     )
 
-no-mark : tie.Need-returns-4
+not-defined : tie.Need-returns-4
 unfolding Place-answer
-no-mark c p symbols arities s =
+not-defined c p symbols arities s =
     let b = c .before .before .before in
     rw (
       stored-place p symbols _ arities _ _ _ s _ _,
       lt-ltb _ _ (b .before .before .before .if1 .left),
       lt-ltb _ _ (b .if2 .left),
-      ← (c .before .is-marked .ensures),
+      ← (c .before .is-defined .ensures),
       c .if3 .left,
     )
 
@@ -74,4 +74,4 @@ place-of-spec =
     (λ c κs. search needs)
     (λ c. omega (arith, inside (c .before .before .before)))
     found
-    no-mark)
+    not-defined)

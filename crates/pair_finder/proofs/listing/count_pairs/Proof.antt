@@ -5,15 +5,15 @@ use Prim.Native.Nat.{_+_, _*_, _-_, _≤_}
 use native.Mathlib.Omega.{arith}
 use lib.ListN.{length, getD}
 use Rattle.pair_finder.specs.Walking.{first-pairs}
-use Rattle.pair_finder.proofs.Marked.{part-places-few, rule-pairs-long, first-more-long}
+use Rattle.pair_finder.proofs.DefinedPlaces.{part-places-few, rule-pairs-long, first-more-long}
 use Rattle.pair_finder.proofs.listing.count_pairs.Statement.{statement}
 use Rattle.pair_finder.proofs.listing.count_pairs.Tie as tie
 
 abbrev Inv-loop : tie.InvT-loop
-Inv-loop starts nodes marks rules n₀ i₀ n i = (i ≤ rules) × (n ≤ 32 * i) × (n ≡ length (first-pairs starts nodes marks i))
+Inv-loop starts nodes flags rules n₀ i₀ n i = (i ≤ rules) × (n ≤ 32 * i) × (n ≡ length (first-pairs starts nodes flags i))
 
 abbrev μ-loop : tie.MeasureT-loop
-μ-loop starts nodes marks rules n₀ i₀ n i = rules - i
+μ-loop starts nodes flags rules n₀ i₀ n i = rules - i
 
 asked : tie.Need-count-in-requires Inv-loop μ-loop
 asked c κs =
@@ -30,7 +30,7 @@ few c =
     let start = turn .before .before .before .before .before in
     omega (
       arith,
-      part-places-few (start .args .marks .now) (start .args .nodes .now) (getD (start .args .starts .now) (2 * l .i + 1) 0) (getD (start .args .starts .now) (2 * l .i + 2) 0),
+      part-places-few (start .args .defined .now) (start .args .nodes .now) (getD (start .args .starts .now) (2 * l .i + 1) 0) (getD (start .args .starts .now) (2 * l .i + 2) 0),
       start .pre .0 .short (l .i) (turn .loop-test .taken),
       c .count-in .ensures,
     )
@@ -39,8 +39,8 @@ again : tie.Need-loop-again Inv-loop μ-loop
 again c =
     let l = c .before .before .before .before .loop in
     let start = c .before .before .before .before .before .before .before .before in
-    let rest = rule-pairs-long (start .args .starts .now) (start .args .nodes .now) (start .args .marks .now) (l .i) in
-    let more = first-more-long (start .args .starts .now) (start .args .nodes .now) (start .args .marks .now) (l .i) in
+    let rest = rule-pairs-long (start .args .starts .now) (start .args .nodes .now) (start .args .defined .now) (l .i) in
+    let more = first-more-long (start .args .starts .now) (start .args .nodes .now) (start .args .defined .now) (l .i) in
     (omega arith, omega (arith, few c), omega (arith, c .count-in .ensures))
 
 returns : tie.Need-returns Inv-loop μ-loop

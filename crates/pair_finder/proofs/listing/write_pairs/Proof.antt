@@ -6,17 +6,17 @@ use native.Mathlib.Nat.{zero-add}
 use native.Mathlib.Omega.{arith}
 use lib.ListN.{length}
 use Rattle.pair_finder.specs.Walking.{rule-pairs, first-pairs, Written}
-use Rattle.pair_finder.proofs.Marked.{rule-pairs-long, first-more, first-more-long, first-fewer}
+use Rattle.pair_finder.proofs.DefinedPlaces.{rule-pairs-long, first-more, first-more-long, first-fewer}
 use Rattle.pair_finder.proofs.Written.{written-none, written-then}
 use Rattle.pair_finder.proofs.listing.write_pairs.Statement.{statement}
 use Rattle.pair_finder.proofs.listing.write_pairs.Tie as tie
 
 abbrev Inv-loop : tie.InvT-loop
-Inv-loop list₀ starts nodes marks rules at₀ i₀ list at i =
-    (i ≤ rules) × (length list ≡ length list₀) × Written 0 (first-pairs starts nodes marks i) at list₀ list
+Inv-loop list₀ starts nodes flags rules at₀ i₀ list at i =
+    (i ≤ rules) × (length list ≡ length list₀) × Written 0 (first-pairs starts nodes flags i) at list₀ list
 
 abbrev μ-loop : tie.MeasureT-loop
-μ-loop list₀ starts nodes marks rules at₀ i₀ list at i = rules - i
+μ-loop list₀ starts nodes flags rules at₀ i₀ list at i = rules - i
 
 module _ (ss ns ms o z : List ℕ) (rules i at : ℕ) (h : i < rules) (room : 8 * length (first-pairs ss ns ms rules) ≤ length o)
     (w : Written 0 (first-pairs ss ns ms i) at o z) where
@@ -41,7 +41,7 @@ asked c κs =
       omega (
         arith,
         rule-fits _ _ _ _ (l .list) _ (l .i) (l .at) (turn .loop-test .taken) (start .pre .2) (l .inv .2),
-        rule-pairs-long (start .args .starts .now) (start .args .nodes .now) (start .args .marks .now) (l .i),
+        rule-pairs-long (start .args .starts .now) (start .args .nodes .now) (start .args .defined .now) (l .i),
         l .inv .1,
       ),
     )

@@ -10,7 +10,7 @@ use lib.ListN.{length, getD, take, drop, length-append, length-take, length-map}
 use Rattle.terms.specs.Kept.{part}
 use Rattle.terms.proofs.Parts.{part-none, part-more}
 use Rattle.pairs.specs.Listing.{a-pair}
-use Rattle.pair_finder.specs.Walking.{is-marked, places, rule-pairs, first-pairs}
+use Rattle.pair_finder.specs.Walking.{is-defined, places, rule-pairs, first-pairs}
 use Rattle.pairs.proofs.Listed.{either}
 
 -- A SIDE from `from` to `to`, of which the nodes from i on are left
@@ -27,13 +27,13 @@ module _ (ms ns : List ℕ) (from i to : ℕ) (past : from ≤ i) (h : i < to) (
   next-place : i + 1 - from ≡ suc (i - from)
   next-place = omega arith
 
-  pub marked-left : is-marked ms (getD ns i 0) ≡ true → places-left ms ns from i to ≡ (i - from) ∷ places-left ms ns from (i + 1) to
+  pub defined-left : is-defined ms (getD ns i 0) ≡ true → places-left ms ns from i to ≡ (i - from) ∷ places-left ms ns from (i + 1) to
   unfolding places
-  marked-left e = rw (part-more ns i to h fits, e, next-place)
+  defined-left e = rw (part-more ns i to h fits, e, next-place)
 
-  pub unmarked-left : is-marked ms (getD ns i 0) ≡ false → places-left ms ns from i to ≡ places-left ms ns from (i + 1) to
+  pub undefined-left : is-defined ms (getD ns i 0) ≡ false → places-left ms ns from i to ≡ places-left ms ns from (i + 1) to
   unfolding places
-  unmarked-left e = rw (part-more ns i to h fits, e, next-place)
+  undefined-left e = rw (part-more ns i to h fits, e, next-place)
 
 -- at its beginning all of them are left
 pub all-left : (ms ns : List ℕ) (from to : ℕ) → places-left ms ns from from to ≡ places ms 0 (part ns from to)
@@ -45,7 +45,7 @@ unfolding places
 places-few ms k [] = omega arith
 places-few ms k (c ∷ cs) =
     let rest = places-few ms (suc k) cs in
-    either (λ (l : List ℕ). length l ≤ suc (length cs)) (is-marked ms c) (omega arith) (omega arith)
+    either (λ (l : List ℕ). length l ≤ suc (length cs)) (is-defined ms c) (omega arith) (omega arith)
 
 pub part-places-few : (ms ns : List ℕ) (a b : ℕ) → length (places ms 0 (part ns a b)) ≤ b - a
 unfolding part

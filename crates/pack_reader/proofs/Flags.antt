@@ -1,4 +1,4 @@
--- Marks of the symbols that begin left sides: a mark more for a rule more, and the marks of a pack's rules are those of its
+-- Flags of the symbols that begin left sides: a flag more for a rule more, and the flags of a pack's rules are those of its
 -- defined symbols.
 use mathlib.Core.Path.{_≡_, sym, _∙_}
 use mathlib.Core.Bool.{true, cond, false≢true}
@@ -19,19 +19,19 @@ use Rattle.rewriting.proofs.Defined.{defined-exactly}
 use Rattle.terms.specs.Sides.{symbol, flat}
 use Rattle.terms.specs.Kept.{code, Kept}
 use Rattle.terms.proofs.Rests.{kept-first}
-use Rattle.pack_reader.specs.Stored.{Rule-at, begins-left, Marked}
+use Rattle.pack_reader.specs.Stored.{Rule-at, begins-left, Flagged}
 
 -- MARKS
 
-pub marked-none : (ss ns : List ℕ) (n : ℕ) → 64 ≤ n → Marked ss ns 0 (replicate n 0)
-unfolding Marked begins-left
-marked-none ss ns n h f k = getD-replicate n f 0 0 (omega arith)
+pub flagged-none : (ss ns : List ℕ) (n : ℕ) → 64 ≤ n → Flagged ss ns 0 (replicate n 0)
+unfolding Flagged begins-left
+flagged-none ss ns n h f k = getD-replicate n f 0 0 (omega arith)
 
-module _ (ss ns ms : List ℕ) (i : ℕ) (m : Marked ss ns i ms) where
+module _ (ss ns ms : List ℕ) (i : ℕ) (m : Flagged ss ns i ms) where
   -- a rule more, whose left side begins with a symbol
-  pub marked-more : length ms ≡ 64 → getD ns (getD ss (2 * i) 0) 0 < 64 → Marked ss ns (i + 1) (set ms (getD ns (getD ss (2 * i) 0) 0) 1)
-  unfolding Marked begins-left
-  marked-more long h f k =
+  pub flagged-more : length ms ≡ 64 → getD ns (getD ss (2 * i) 0) 0 < 64 → Flagged ss ns (i + 1) (set ms (getD ns (getD ss (2 * i) 0) 0) 1)
+  unfolding Flagged begins-left
+  flagged-more long h f k =
       let c = getD ns (getD ss (2 * i) 0) 0 in
       rw (add-one i)
       (by-test (eqb c f)
@@ -39,9 +39,9 @@ module _ (ss ns ms : List ℕ) (i : ℕ) (m : Marked ss ns i ms) where
       (λ e. rw e (getD-set-other ms c f 1 0 (λ z. eqb-false c f e (sym z)) ∙ m f k)))
 
   -- or with another byte
-  pub marked-same : 64 ≤ getD ns (getD ss (2 * i) 0) 0 → Marked ss ns (i + 1) ms
-  unfolding Marked begins-left
-  marked-same h f k =
+  pub flagged-same : 64 ≤ getD ns (getD ss (2 * i) 0) 0 → Flagged ss ns (i + 1) ms
+  unfolding Flagged begins-left
+  flagged-same h f k =
       let c = getD ns (getD ss (2 * i) 0) 0 in
       rw (add-one i, ne-eqb c f (λ z. omega arith)) (m f k)
 
@@ -84,6 +84,6 @@ module _ (p : System) (ss ns : List ℕ) (kept : (i : ℕ) → i < length (p .ru
       let d = defined-exactly p f .0 e in
       begins ss ns (length (p .rules)) f (d .0) (d .1) (root-kept ns _ f (rule p (d .0) .left) (applied (d .0) (d .1)) (kept (d .0) (d .1) .left-kept) ∙ d .2))
 
-  pub marks-defined : (ms : List ℕ) → Marked ss ns (length (p .rules)) ms → (f : ℕ) → f < 64 → getD ms f 0 ≡ cond (defined p f) 1 0
-  unfolding Marked
-  marks-defined ms m f h = m f h ∙ rw (begins-defined f)
+  pub flags-defined : (ms : List ℕ) → Flagged ss ns (length (p .rules)) ms → (f : ℕ) → f < 64 → getD ms f 0 ≡ cond (defined p f) 1 0
+  unfolding Flagged
+  flags-defined ms m f h = m f h ∙ rw (begins-defined f)

@@ -1,9 +1,9 @@
--- `entries::mark_all` meets its contract: a walk of its MIR, by hand.
+-- `entries::enter_all` meets its contract: a walk of its MIR, by hand.
 --     _9 = len(_1);  _3 = _9 / 8;  _4 = 0;  _5 = 0;  _6 = 0
 --     loop: _10 = _6 < _3, or the loop is left;  _4 = numbered_at(_1, _6, _4);  _7 = place_at(_1, _6, _5);  _8 = entry_at(_1, _6, _4)
---         _12 = &mut *_2.0;  _13 = (_12, _2.1);  _11 = mark(_13, _7, _8);  _5 = counted_at(_1, _6, _5);  _6 = _6 + 1
+--         _12 = &mut *_2.0;  _13 = (_12, _2.1);  _11 = enter(_13, _7, _8);  _5 = counted_at(_1, _6, _5);  _6 = _6 + 1
 --     _0 = _5;  return
--- What holds before each turn is a `Turn` of `Marking.antt`. For the call of `mark` the entries are lent again, and come back marked. All that is known of the five callees is their contracts.
+-- What holds before each turn is a `Turn` of `Entering.antt`. For the call of `enter` the entries are lent again, and come back with this one entered. All that is known of the five callees is their contracts.
 use mathlib.Core.Path.{_≡_, refl, sym, ap, subst, _∙_}
 use mathlib.Core.Bool.{Bool, true, false}
 use mathlib.Core.WellFounded.{WellFounded, InvImage·wf}
@@ -56,7 +56,7 @@ use Rattle.entries.specs.Entries.{Keeps}
 use Rattle.entries.specs.declared.Entry.{Entry}
 use Rattle.entries.proofs.Entry as E
 use Rattle.entries.proofs.Entry.Laws as E′
-use Rattle.entries.proofs.Marking.{many, Turn, start, Numbered, Placed, Made, Marked, Counted, goes-on, nearer, ends}
+use Rattle.entries.proofs.Entering.{many, Turn, start, Numbered, Placed, Made, Entered, Counted, goes-on, nearer, ends}
 use Rattle.entries.proofs.Again.{LentAgain, lends-again, comes-back}
 use Rattle.entries.proofs.numbered_at as numbered-at
 use Rattle.entries.proofs.numbered_at.Symbol as numbered-at-def
@@ -74,21 +74,21 @@ use Rattle.entries.proofs.counted_at as counted-at
 use Rattle.entries.proofs.counted_at.Symbol as counted-at-def
 use Rattle.entries.proofs.counted_at.Symbol.{name as #entries·counted-at}
 use Rattle.entries.proofs.counted_at.Met as counted-at-thm
-use Rattle.entries.proofs.mark as mark
-use Rattle.entries.proofs.mark.Symbol as mark-def
-use Rattle.entries.proofs.mark.Symbol.{name as #entries·mark}
-use Rattle.entries.proofs.mark.Met as mark-thm
-use Rattle.entries.proofs.mark_all.Key.{name as #entries·mark-all}
-use Rattle.entries.proofs.mark_all as mark-all
-use Rattle.entries.proofs.mark_all.Statement as stated
-use Rattle.entries.proofs.mark_all.Code as code
-use Rattle.entries.proofs.mark_all.Code.Mir as body
+use Rattle.entries.proofs.enter as enter
+use Rattle.entries.proofs.enter.Symbol as enter-def
+use Rattle.entries.proofs.enter.Symbol.{name as #entries·enter}
+use Rattle.entries.proofs.enter.Met as enter-thm
+use Rattle.entries.proofs.enter_all.Key.{name as #entries·enter-all}
+use Rattle.entries.proofs.enter_all as enter-all
+use Rattle.entries.proofs.enter_all.Statement as stated
+use Rattle.entries.proofs.enter_all.Code as code
+use Rattle.entries.proofs.enter_all.Code.Mir as body
 
 abbrev R : RattleType
 R = E.the-row
 
 -- at exit the certificate is as it was passed, and the entries are still owned
-abbrev stayed : Stays (mark-all.ended .signature .params) (mark-all.ended .kept)
+abbrev stayed : Stays (enter-all.ended .signature .params) (enter-all.ended .kept)
 stayed = (stay-none-slice (0 ∷ []) tt (plain (λ _. u8)) yes, (stay-slice (1 ∷ []) tt (plain (λ _. R)), tt))
 
 -- the contracts that the proof cites
@@ -105,15 +105,15 @@ module _ {M : Type 1} (𝓤 : URA M) (H : Heap 𝓤) (A : Atoms 𝓤) (mem : Mem
   abbrev CountedAt : Contract 𝓤
   CountedAt = tripleOf 𝓤 H A counted-at.signature (counted-at.spec 𝓤 H A mem run)
 
-  abbrev Mark : Contract 𝓤
-  Mark = tripleOf 𝓤 H A mark.signature (mark.spec 𝓤 H A mem run)
+  abbrev Enter : Contract 𝓤
+  Enter = tripleOf 𝓤 H A enter.signature (enter.spec 𝓤 H A mem run)
 
   -- the callees, as the table of calls has them, meet their contracts
   record Known (C : Calls 𝓤 H) : Type 2 where
     numbers : Triple 𝓤 (C #entries·numbered-at) NumberedAt
     places : Triple 𝓤 (C #entries·place-at) PlaceAt
     entries : Triple 𝓤 (C #entries·entry-at) EntryAt
-    marks : Triple 𝓤 (C #entries·mark) Mark
+    enters : Triple 𝓤 (C #entries·enter) Enter
     counts : Triple 𝓤 (C #entries·counted-at) CountedAt
 
 module _ {M : Type 1} (𝓤 : URA M) (H : Heap 𝓤) (A : Atoms 𝓤) (W : Given 𝓤 H A) (mem : Memory → SProp 𝓤) (run : Routine → Fun 𝓤)
@@ -143,7 +143,7 @@ module _ {M : Type 1} (𝓤 : URA M) (H : Heap 𝓤) (A : Atoms 𝓤) (W : Given
 
   -- the triple in which the walk ends, and what it binds outside
   abbrev Walk : Contract 𝓤
-  Walk = walkOf 𝓤 H A mark-all.ended stayed (mark-all.clauses 𝓤 H A mem run)
+  Walk = walkOf 𝓤 H A enter-all.ended stayed (enter-all.clauses 𝓤 H A mem run)
 
   abbrev y : Walk .Ghost
   y = (((κ, (κ′, tt)), (q, (q′, tt)), tt, x, at), tt)
@@ -161,7 +161,7 @@ module _ {M : Type 1} (𝓤 : URA M) (H : Heap 𝓤) (A : Atoms 𝓤) (W : Given
 
   exits : (r : ℕ) (xs : List Entry) (same : length xs ≡ length es) → r < 2 ^ 64 → Keeps (all-records bs) (record { count = r; entries = xs }) → ent 𝓤 (⋆ 𝓤 H A (End xs)) (Walk .post y (vint w64 r))
   exits r xs same fits said =
-      qed W (End xs) ∵ suffices ! _ (ends-at 𝓤 H A mark-all.ended stayed (mark-all.clauses 𝓤 H A mem run) W y (vint w64 r) r (tt, (xs, tt)) (tt, (same, tt))) $ says ! said $
+      qed W (End xs) ∵ suffices ! _ (ends-at 𝓤 H A enter-all.ended stayed (enter-all.clauses 𝓤 H A mem run) W y (vint w64 r) r (tt, (xs, tt)) (tt, (same, tt))) $ says ! said $
       nothing ! $ move ! (3 ∷ 0 ∷ []) $ join ! $ move ! (1 ∷ 0 ∷ []) $ join ! $ frame ! $
       rewrite ! 1 (λ (m : ℕ). ‵ (MutSlice (named 1) κ′ R .own (ref γ xs) (sliceVal (b, o) m ∷ []))) same refl $ nothing ! $ move ! (2 ∷ 0 ∷ []) $ fjoin ! $ move ! (1 ∷ 0 ∷ []) $ fjoin ! $
       owned ! usize (Is usize) (uint-makes 𝓤 H A W w64) r _ (refl, fits) $ move ! (1 ∷ 0 ∷ []) $ done !
@@ -204,7 +204,7 @@ module _ {M : Type 1} (𝓤 : URA M) (H : Heap 𝓤) (A : Atoms 𝓤) (W : Given
 
     -- THE CALLS: what each is passed, what it asks, and what it says of its result
 
-    -- all but `mark` are passed the certificate, i, and a number k of the width w
+    -- all but `enter` are passed the certificate, i, and a number k of the width w
     abbrev passed : (k : ℕ) → RefT (List ℕ) × (ℕ × (ℕ × Unit {0}))
     passed k = (c, (i, (k, tt)))
 
@@ -268,27 +268,27 @@ module _ {M : Type 1} (𝓤 : URA M) (H : Heap 𝓤) (A : Atoms 𝓤) (W : Given
       said-entry : (more : i < n) (e : Entry) → ent 𝓤 (SaysEntry e) (fact 𝓤 (Made bs t more m e))
       said-entry more e = exE 𝓤 _ (λ ws. snd∗ 𝓤 (sem 𝓤 H A (lasts entry-at.ended (κ, tt) (passed m) ws)) (fact 𝓤 (Made bs t more m e)))
 
-    -- `mark`, at the place s and the entry e, whose machine value is u: the entries are lent again for ν, under the name δ
+    -- `enter`, at the place s and the entry e, whose machine value is u: the entries are lent again for ν, under the name δ
     module _ (ν : ℕ) (δ : GName) (s : ℕ) (e : Entry) (u : Val) where
       abbrev Again : Fml
       Again = MutSlice (named 0) (ν ∷ []) R .own (ref δ (t .entries)) (slice (t .entries) ∷ [])
 
-      abbrev passed-mark : RefT (List Entry) × (ℕ × (Entry × Unit {0}))
-      passed-mark = (ref δ (t .entries), (s, (e, tt)))
+      abbrev passed-enter : RefT (List Entry) × (ℕ × (Entry × Unit {0}))
+      passed-enter = (ref δ (t .entries), (s, (e, tt)))
 
-      abbrev to-mark : Mark 𝓤 H A mem run .Ghost
-      to-mark = (((ν ∷ [], tt), (fullShare, tt), tt, passed-mark, (slice (t .entries) ∷ [], (vint w64 s ∷ [], (u ∷ [], tt)))), tt)
+      abbrev to-enter : Enter 𝓤 H A mem run .Ghost
+      to-enter = (((ν ∷ [], tt), (fullShare, tt), tt, passed-enter, (slice (t .entries) ∷ [], (vint w64 s ∷ [], (u ∷ [], tt)))), tt)
 
-      ask-mark : s < 2 ^ 64 → ent 𝓤 (⋆ 𝓤 H A (‵ (flft (ν ∷ []) fullShare) ∷ ‵ Again ∷ ‵ (R .own e (u ∷ [])) ∷ [])) (Mark 𝓤 H A mem run .pre to-mark)
-      ask-mark s-fits =
+      ask-enter : s < 2 ^ 64 → ent 𝓤 (⋆ 𝓤 H A (‵ (flft (ν ∷ []) fullShare) ∷ ‵ Again ∷ ‵ (R .own e (u ∷ [])) ∷ [])) (Enter 𝓤 H A mem run .pre to-enter)
+      ask-enter s-fits =
           qed W (‵ (flft (ν ∷ []) fullShare) ∷ ‵ Again ∷ ‵ (R .own e (u ∷ [])) ∷ []) ∵ suffices ! _ (∗emp 𝓤 _) $ nothing ! $ move ! (1 ∷ 0 ∷ []) $ join ! $ frame ! $
           nothing ! $ move ! (2 ∷ 0 ∷ []) $ fjoin ! $ owned ! usize (Is usize) (uint-makes 𝓤 H A W w64) s _ (refl, s-fits) $ fjoin ! $ move ! (1 ∷ 0 ∷ []) $ fjoin ! $ done !
 
-      abbrev SaysMark : Unit {0} → SProp 𝓤
-      SaysMark r = ensured 𝓤 H A mark.ended (mark.clauses 𝓤 H A mem run) (ν ∷ [], tt) passed-mark tt r
+      abbrev SaysEnter : Unit {0} → SProp 𝓤
+      SaysEnter r = ensured 𝓤 H A enter.ended (enter.clauses 𝓤 H A mem run) (ν ∷ [], tt) passed-enter tt r
 
-      abbrev LastMark : Lasts mark.ended (ν ∷ [], tt) passed-mark → Fml
-      LastMark ws = lasts mark.ended (ν ∷ [], tt) passed-mark ws
+      abbrev LastEnter : Lasts enter.ended (ν ∷ [], tt) passed-enter → Fml
+      LastEnter ws = lasts enter.ended (ν ∷ [], tt) passed-enter ws
 
   -- THE LOOP
 
@@ -364,10 +364,10 @@ module _ {M : Type 1} (𝓤 : URA M) (H : Heap 𝓤) (A : Atoms 𝓤) (W : Given
         move ! (8 ∷ 9 ∷ []) $ free1 ! $ move ! (6 ∷ 7 ∷ []) $ free1 ! $ move ! (4 ∷ 5 ∷ []) $ free1 ! $ free0 ! $
         by ! (exits (t .count) (t .entries) (as-long t) (count-fits t) (ends bs t over))
 
-    -- a turn that marks an entry
-    marks-one : (t : Turn bs) → t .i < n → Sq W (At t) (runs C Λ En body.turn-1 (anyQ (Turned t)))
+    -- a turn that enters an entry
+    enters-one : (t : Turn bs) → t .i < n → Sq W (At t) (runs C Λ En body.turn-1 (anyQ (Turned t)))
     unfolding afterTurn
-    marks-one t more =
+    enters-one t more =
         -- [κ's token; what the certificate owns; κ′'s token; what the entries own; room for _13; …; room for _12; …; room for _11; …; room for _10; …; _9; …; room for _8; …; room for _7; …; _6; …; _5; …; _4; …; _3; …; _2; …; _1; …; room for _0; …]
         sets ! (bin ! (var ! 18 refl) (var ! 24 refl) tt) 10 refl (tt, tt) $
         rewrite ! 10 (λ (z : Bool). ‵ (fat fullShare tyBool l₁₀ 0 (vbool z))) (lt-ltb (t .i) n more) refl $
@@ -387,7 +387,7 @@ module _ {M : Type 1} (𝓤 : URA M) (H : Heap 𝓤) (A : Atoms 𝓤) (W : Given
         split ! $ move ! (1 ∷ []) $ use1 W (raw (fact 𝓤 (Placed bs t more s))) (said-place t more s) $ heard ! (Placed bs t more s) (λ is-s. split ! $ move ! (1 ∷ []) $
         facts ! usize (Is usize) (shows 𝓤 H A usize) s (v₇ ∷ []) (λ is₇. land ! (from ! (stop !)) (init ! 16 refl (uint-lawful 𝓤 H A W w64 .typed s _ is₇ .0)) $
         rewrite ! 16 (λ (v : Val). ‵ (fat fullShare (tyInt w64) l₇ 0 v)) (ap only (is₇ .0)) refl $ split ! $ move ! (1 ∷ []) $ drop ! $
-        -- [κ's token; what the certificate owns; κ′'s token; what the entries own; room for _13; …]: the call of `entry_at`; what its result owns is kept for `mark`
+        -- [κ's token; what the certificate owns; κ′'s token; what the entries own; room for _13; …]: the call of `entry_at`; what its result owns is kept for `enter`
         move ! (1 ∷ []) $ use1 W (‵ File ⊛ ‵ File) twice $ split ! $ move ! (2 ∷ 0 ∷ []) $ use2 W (raw (EntryAt 𝓤 H A mem run .pre (to-entry t m))) (ask-entry t m more (numbered-fits t more m (is-m .1))) $
         calls-at ! fm (EntryAt 𝓤 H A mem run) (known .entries) (to-entry t m) (and-then ! (var ! 28 refl) (and-then ! (var ! 18 refl) (and-then ! (var ! 22 refl) (no-more !)))) (λ v₈.
         use1 W (later (some (λ (e : Entry). (Token ⊛ ‵ (R .own e (v₈ ∷ []))) ⊛ raw (SaysEntry t m e)))) (id⊢ 𝓤 _) $ await ! tt $ pick ! (λ e.
@@ -400,12 +400,12 @@ module _ {M : Type 1} (𝓤 : URA M) (H : Heap 𝓤) (A : Atoms 𝓤) (W : Given
         -- [the same, with _13 and _12]: the entries are lent again, for a lifetime ν of the call
         lft-new ! tt (λ ν. move ! (5 ∷ 4 ∷ []) $
         use2 W (later (some (λ (δ : GName). ‵ (Again t ν δ s e v₈) ⊛ ‵ (LentAgain R κ′ (ν ∷ []) q′ γ b o δ (t .entries))))) (lends-again R κ′ (ν ∷ []) q′ γ b o 𝓤 H A W (named 1) (named 0) (t .entries)) $ await ! tt $ pick ! (λ δ. split ! $
-        -- [the entries for ν; what is kept of them; ν's token; κ's token; what the entry owns; what the certificate owns; _13; …]: the call of `mark`
-        move ! (2 ∷ 0 ∷ 4 ∷ []) $ use3 W (raw (Mark 𝓤 H A mem run .pre (to-mark t ν δ s e v₈))) (ask-mark t ν δ s e v₈ (is₇ .1)) $
-        calls-at ! fm (Mark 𝓤 H A mem run) (known .marks) (to-mark t ν δ s e v₈) (and-then ! (var ! 4 refl) (and-then ! (var ! 16 refl) (and-then ! (var ! 14 refl) (no-more !)))) (λ v₁₁.
-        use1 W (later (some (λ (r : Unit {0}). ((‵ (flft (ν ∷ []) fullShare) ⊛ ‵ ftrue) ⊛ ‵ (unit .own r (v₁₁ ∷ []))) ⊛ raw (SaysMark t ν δ s e v₈ r)))) (id⊢ 𝓤 _) $ await ! tt $ pick ! (λ r. split ! $
-        move ! (1 ∷ []) $ use1 W (some (λ ws. ‵ (LastMark t ν δ s e v₈ ws) ⊛ raw (fact 𝓤 (Marked bs t more s e (ws .0))))) (id⊢ 𝓤 _) $ pick ! (λ ws. split ! $
-        move ! (1 ∷ []) $ heard ! (Marked bs t more s e (ws .0)) (λ said. fsplit ! $ fsplit ! $ move ! (1 ∷ []) $ feqL ! (λ l.
+        -- [the entries for ν; what is kept of them; ν's token; κ's token; what the entry owns; what the certificate owns; _13; …]: the call of `enter`
+        move ! (2 ∷ 0 ∷ 4 ∷ []) $ use3 W (raw (Enter 𝓤 H A mem run .pre (to-enter t ν δ s e v₈))) (ask-enter t ν δ s e v₈ (is₇ .1)) $
+        calls-at ! fm (Enter 𝓤 H A mem run) (known .enters) (to-enter t ν δ s e v₈) (and-then ! (var ! 4 refl) (and-then ! (var ! 16 refl) (and-then ! (var ! 14 refl) (no-more !)))) (λ v₁₁.
+        use1 W (later (some (λ (r : Unit {0}). ((‵ (flft (ν ∷ []) fullShare) ⊛ ‵ ftrue) ⊛ ‵ (unit .own r (v₁₁ ∷ []))) ⊛ raw (SaysEnter t ν δ s e v₈ r)))) (id⊢ 𝓤 _) $ await ! tt $ pick ! (λ r. split ! $
+        move ! (1 ∷ []) $ use1 W (some (λ ws. ‵ (LastEnter t ν δ s e v₈ ws) ⊛ raw (fact 𝓤 (Entered bs t more s e (ws .0))))) (id⊢ 𝓤 _) $ pick ! (λ ws. split ! $
+        move ! (1 ∷ []) $ heard ! (Entered bs t more s e (ws .0)) (λ said. fsplit ! $ fsplit ! $ move ! (1 ∷ []) $ feqL ! (λ l.
         -- [the last entries; true; ν's token and the result; what is kept of the entries; κ's token; what the certificate owns; _13; …]
         move ! (2 ∷ []) $ split ! $ move ! (1 ∷ []) $ facts ! unit (Is unit) (shows 𝓤 H A unit) r (v₁₁ ∷ []) (λ is₁₁. land ! (from ! (stop !)) (init ! 10 refl (nothing-lawful 𝓤 H A W .typed r _ is₁₁ .0)) $
         -- [ν's token, and true; the last entries; true; what is kept of the entries; κ's token; what the certificate owns; _13; …]: ν is ended, and the entries come back
@@ -428,10 +428,10 @@ module _ {M : Type 1} (𝓤 : URA M) (H : Heap 𝓤) (A : Atoms 𝓤) (W : Given
     turns t = go (ltb (t .i) n) refl
       where
         go : (z : Bool) → ltb (t .i) n ≡ z → Sq W (At t) (runs C Λ En body.turn-1 (anyQ (Turned t)))
-        go true e = marks-one t (ltb-true (t .i) n e)
+        go true e = enters-one t (ltb-true (t .i) n e)
         go false e = leaves t (ltb-false (t .i) n e)
 
-  walk : (𝓣 : Tables 𝓤 H) → Known 𝓤 H A mem run (𝓣 .C) → ent 𝓤 (onEntry 𝓤 H A mark-all.signature (κ, (κ′, tt)) (q, (q′, tt)) x at) (WpFn 𝓤 H (𝓣 .C) (𝓣 .Λ) code.function (Walk .args y) (Walk .post y))
+  walk : (𝓣 : Tables 𝓤 H) → Known 𝓤 H A mem run (𝓣 .C) → ent 𝓤 (onEntry 𝓤 H A enter-all.signature (κ, (κ′, tt)) (q, (q′, tt)) x at) (WpFn 𝓤 H (𝓣 .C) (𝓣 .Λ) code.function (Walk .args y) (Walk .post y))
   walk 𝓣 known =
       qed W ((‵ (flft κ q) ⊛ ‵ (flft κ′ q′) ⊛ ‵ ftrue) ∷ ‵ (owns (ShrSlice (named 0) κ u8 ∷ MutSlice (named 1) κ′ R ∷ []) x at) ∷ []) ∵ enter ! (𝓣 .C) (𝓣 .Λ) code.function (Walk .args y) _ $
       alloc1 ! (λ l₀. alloc1 ! (λ l₁. alloc1 ! (λ l₂. alloc1 ! (λ l₃. alloc1 ! (λ l₄. alloc1 ! (λ l₅. alloc1 ! (λ l₆. alloc1 ! (λ l₇. alloc1 ! (λ l₈. alloc1 ! (λ l₉. alloc1 ! (λ l₁₀. alloc1 ! (λ l₁₁. alloc1 ! (λ l₁₂. alloc1 ! (λ l₁₃. alloc0 ! $ params1 ! $
@@ -448,25 +448,25 @@ module _ {M : Type 1} (𝓤 : URA M) (H : Heap 𝓤) (A : Atoms 𝓤) (W : Given
       n-fits : n < 2 ^ 64
       n-fits = let few : n ≤ 3072 = few-records in omega arith
 
-mark-all-meets : {M : Type 1} (𝓤 : URA M) (H : Heap 𝓤) (A : Atoms 𝓤) (W : Given 𝓤 H A) (mem : Memory → SProp 𝓤) (run : Routine → Fun 𝓤) (𝓣 : Tables 𝓤 H)
-    → Known 𝓤 H A mem run (𝓣 .C) → Meets 𝓤 H A mark-all.signature (WpFn 𝓤 H (𝓣 .C) (𝓣 .Λ) code.function) (mark-all.spec 𝓤 H A mem run)
-mark-all-meets 𝓤 H A W mem run 𝓣 known =
-    meets-by 𝓤 H A W mark-all.ended stayed (mark-all.clauses 𝓤 H A mem run) 𝓣 code.function (λ κs. (slice-vals, (slice-vals, tt)))
+enter-all-meets : {M : Type 1} (𝓤 : URA M) (H : Heap 𝓤) (A : Atoms 𝓤) (W : Given 𝓤 H A) (mem : Memory → SProp 𝓤) (run : Routine → Fun 𝓤) (𝓣 : Tables 𝓤 H)
+    → Known 𝓤 H A mem run (𝓣 .C) → Meets 𝓤 H A enter-all.signature (WpFn 𝓤 H (𝓣 .C) (𝓣 .Λ) code.function) (enter-all.spec 𝓤 H A mem run)
+enter-all-meets 𝓤 H A W mem run 𝓣 known =
+    meets-by 𝓤 H A W enter-all.ended stayed (enter-all.clauses 𝓤 H A mem run) 𝓣 code.function (λ κs. (slice-vals, (slice-vals, tt)))
     (goes-none-slice 𝓤 H A W 2 (0 ∷ []) tt (plain (λ _. u8)) yes, (goes-slice 𝓤 H A W 2 1 tt (plain (λ _. R)), tt))
     (λ κs. (shr-slice-tells (named 0) (κs .0) u8, (mut-slice-tells (named 1) (κs .1 .0) R, tt)))
     (λ κs qs bounds a _ are. needs 𝓤 _ _ (λ ok.
     walk 𝓤 H A W mem run (κs .0) (κs .1 .0) (qs .0) (qs .1 .0) (a .0) (a .1 .0 .ptr .0) (a .1 .0 .ptr .1) (a .1 .0 .name) (a .1 .0 .now) (are .0 .0 .1) (are .1 .0 .0 .1) ok 𝓣 known))
 
-pub mark-all-spec : {M : Type 1} → stated.statement M
+pub enter-all-spec : {M : Type 1} → stated.statement M
 unfolding code.routine tablesOf
-mark-all-spec 𝓤 H 𝓜 𝓖 𝓡 =
-    entered 𝓤 H (tripleOf 𝓤 H (𝓖 .A) mark-all.signature (mark-all.spec 𝓤 H (𝓖 .A) (𝓜 .mem) (𝓡 .run)))
-    (tables 𝓤 H 𝓜 𝓡 code.env .C) (tables 𝓤 H 𝓜 𝓡 code.env .Λ) #entries·mark-all code.function (code.unfolded 𝓤 H 𝓜 𝓡)
-    (mark-all-meets 𝓤 H (𝓖 .A) (givenOf 𝓤 H 𝓜 𝓖) (𝓜 .mem) (𝓡 .run) (tablesOf 𝓤 H 𝓜 (tables 𝓤 H 𝓜 𝓡 code.env))
+enter-all-spec 𝓤 H 𝓜 𝓖 𝓡 =
+    entered 𝓤 H (tripleOf 𝓤 H (𝓖 .A) enter-all.signature (enter-all.spec 𝓤 H (𝓖 .A) (𝓜 .mem) (𝓡 .run)))
+    (tables 𝓤 H 𝓜 𝓡 code.env .C) (tables 𝓤 H 𝓜 𝓡 code.env .Λ) #entries·enter-all code.function (code.unfolded 𝓤 H 𝓜 𝓡)
+    (enter-all-meets 𝓤 H (𝓖 .A) (givenOf 𝓤 H 𝓜 𝓖) (𝓜 .mem) (𝓡 .run) (tablesOf 𝓤 H 𝓜 (tables 𝓤 H 𝓜 𝓡 code.env))
     record {
       numbers = cited 𝓤 H (NumberedAt 𝓤 H (𝓖 .A) (𝓜 .mem) (𝓡 .run)) 𝓜 𝓡 code.env #entries·numbered-at numbered-at-def.routine code.calls-entries·numbered-at (numbered-at-thm.met 𝓤 H 𝓜 𝓖 𝓡);
       places = cited 𝓤 H (PlaceAt 𝓤 H (𝓖 .A) (𝓜 .mem) (𝓡 .run)) 𝓜 𝓡 code.env #entries·place-at place-at-def.routine code.calls-entries·place-at (place-at-thm.met 𝓤 H 𝓜 𝓖 𝓡);
       entries = cited 𝓤 H (EntryAt 𝓤 H (𝓖 .A) (𝓜 .mem) (𝓡 .run)) 𝓜 𝓡 code.env #entries·entry-at entry-at-def.routine code.calls-entries·entry-at (entry-at-thm.met 𝓤 H 𝓜 𝓖 𝓡);
-      marks = cited 𝓤 H (Mark 𝓤 H (𝓖 .A) (𝓜 .mem) (𝓡 .run)) 𝓜 𝓡 code.env #entries·mark mark-def.routine code.calls-entries·mark (mark-thm.met 𝓤 H 𝓜 𝓖 𝓡);
+      enters = cited 𝓤 H (Enter 𝓤 H (𝓖 .A) (𝓜 .mem) (𝓡 .run)) 𝓜 𝓡 code.env #entries·enter enter-def.routine code.calls-entries·enter (enter-thm.met 𝓤 H 𝓜 𝓖 𝓡);
       counts = cited 𝓤 H (CountedAt 𝓤 H (𝓖 .A) (𝓜 .mem) (𝓡 .run)) 𝓜 𝓡 code.env #entries·counted-at counted-at-def.routine code.calls-entries·counted-at (counted-at-thm.met 𝓤 H 𝓜 𝓖 𝓡);
     })

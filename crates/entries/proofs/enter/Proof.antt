@@ -1,4 +1,4 @@
--- `entries::mark` meets its contract: a walk of its MIR, by hand.
+-- `entries::enter` meets its contract: a walk of its MIR, by hand.
 --     _4 = _1.len;  _5 = _2 < _4;  if _5 { _6 = _2 * 4;  _7 = _1.ptr + _6;  *_7 = _3 };  _0 = ();  return
 -- The slice's borrow is opened where the place is there, the entry is written over, and the borrow is closed at the entries with the new one.
 use mathlib.Core.Path.{_≡_, refl, sym, ap, subst}
@@ -42,22 +42,22 @@ use denote.Triple.Table.{entered}
 use denote.Triple.Walked.{says, Stays, stay-slice, stay-none, walkOf, goes-none, goes-slice, ends-at}
 use denote.Exit.{yes}
 use Rattle.records.proofs.Walk.{var, sets, leave, meets-by}
-use Rattle.entries.specs.Entries.{none, marked}
+use Rattle.entries.specs.Entries.{none, with-entry}
 use Rattle.entries.specs.declared.Entry.{Entry}
-use Rattle.entries.proofs.Marking.{marked-within, marked-past}
+use Rattle.entries.proofs.Entering.{entered-within, entered-past}
 use Rattle.entries.proofs.Entry as T
 use Rattle.entries.proofs.Entry.Laws as T′
-use Rattle.entries.proofs.mark.Key.{name as #entries·mark}
-use Rattle.entries.proofs.mark as mark
-use Rattle.entries.proofs.mark.Statement as stated
-use Rattle.entries.proofs.mark.Code as code
-use Rattle.entries.proofs.mark.Code.Mir as body
+use Rattle.entries.proofs.enter.Key.{name as #entries·enter}
+use Rattle.entries.proofs.enter as enter
+use Rattle.entries.proofs.enter.Statement as stated
+use Rattle.entries.proofs.enter.Code as code
+use Rattle.entries.proofs.enter.Code.Mir as body
 
 abbrev R : RattleType
 R = T.the-row
 
 -- at exit the borrow is still owned
-abbrev stayed : Stays (mark.ended .signature .params) (mark.ended .kept)
+abbrev stayed : Stays (enter.ended .signature .params) (enter.ended .kept)
 stayed = (stay-slice (0 ∷ []) tt (plain (λ _. R)), (stay-none (λ _. usize) yes, (stay-none (λ _. R) yes, tt)))
 
 module _ {M : Type 1} (𝓤 : URA M) (H : Heap 𝓤) (A : Atoms 𝓤) (W : Given 𝓤 H A) (mem : Memory → SProp 𝓤) (run : Routine → Fun 𝓤) (κ : Lft) (q : Share) (b o : ℕ) (γ : GName) (es : List Entry) (i : ℕ) (new : Entry)
@@ -84,7 +84,7 @@ module _ {M : Type 1} (𝓤 : URA M) (H : Heap 𝓤) (A : Atoms 𝓤) (W : Given
 
   -- the triple in which the walk ends, and what it binds outside
   abbrev Walk : Contract 𝓤
-  Walk = walkOf 𝓤 H A mark.ended stayed (mark.clauses 𝓤 H A mem run)
+  Walk = walkOf 𝓤 H A enter.ended stayed (enter.clauses 𝓤 H A mem run)
 
   abbrev y : Walk .Ghost
   y = (((κ, tt), (q, tt), tt, x, at), tt)
@@ -97,9 +97,9 @@ module _ {M : Type 1} (𝓤 : URA M) (H : Heap 𝓤) (A : Atoms 𝓤) (W : Given
   abbrev End : List Entry → List (Item 𝓤)
   End xs = ‵ (fobs γ (codedHoleys R .code (heres R xs))) ∷ ‵ (fbor κ (Held R (length xs) b o γ)) ∷ ‵ (flft κ q) ∷ ‵ Others ∷ []
 
-  exits : (xs : List Entry) (same : length xs ≡ l) → xs ≡ marked es i new → ent 𝓤 (⋆ 𝓤 H A (End xs)) (Walk .post y vunit)
+  exits : (xs : List Entry) (same : length xs ≡ l) → xs ≡ with-entry es i new → ent 𝓤 (⋆ 𝓤 H A (End xs)) (Walk .post y vunit)
   exits xs same said =
-      qed W (End xs) ∵ suffices ! _ (ends-at 𝓤 H A mark.ended stayed (mark.clauses 𝓤 H A mem run) W y vunit tt (xs, (tt, (tt, tt))) (same, (tt, (tt, tt)))) $ says ! said $
+      qed W (End xs) ∵ suffices ! _ (ends-at 𝓤 H A enter.ended stayed (enter.clauses 𝓤 H A mem run) W y vunit tt (xs, (tt, (tt, tt))) (same, (tt, (tt, tt)))) $ says ! said $
       nothing ! $ move ! (3 ∷ 0 ∷ []) $ join ! $ frame ! $
       fjoin ! $ pureI ! (at-slice R (ref xs) (s ∷ [])) (tt, (tt, tt)) (ap (λ (m : ℕ). sliceVal (b, o) m ∷ []) (sym same), subst (Room R) (sym same) room) $ fjoin ! $ fjoin ! $
       feqI ! (List Val) (vunit ∷ []) (vunit ∷ []) refl $ move ! (1 ∷ 0 ∷ []) $ done !
@@ -116,7 +116,7 @@ module _ {M : Type 1} (𝓤 : URA M) (H : Heap 𝓤) (A : Atoms 𝓤) (W : Given
     En l₀ l₁ l₂ l₃ l₄ l₅ l₆ l₇ =
         (tyUnit, l₀) ∷ (sliceTy (tyRef (named 0) mut (pointee (R .written))), l₁) ∷ (tyInt w64, l₂) ∷ (T′.mir, l₃) ∷ (tyInt w64, l₄) ∷ (tyBool, l₅) ∷ (tyInt w64, l₆) ∷ (tyPtr, l₇) ∷ []
 
-    walk : ent 𝓤 (onEntry 𝓤 H A mark.signature (κ, tt) (q, tt) x at) (WpFn 𝓤 H C Λ code.function (Walk .args y) (Walk .post y))
+    walk : ent 𝓤 (onEntry 𝓤 H A enter.signature (κ, tt) (q, tt) x at) (WpFn 𝓤 H C Λ code.function (Walk .args y) (Walk .post y))
     walk =
         qed W ((‵ (flft κ q) ⊛ ‵ ftrue) ∷ ‵ (owns (MutSlice (named 0) κ R ∷ usize ∷ R ∷ []) x at) ∷ []) ∵ enter ! C Λ code.function (Walk .args y) _ $
         alloc1 ! (λ l₀. alloc1 ! (λ l₁. alloc1 ! (λ l₂. alloc1 ! (λ l₃. alloc1 ! (λ l₄. alloc1 ! (λ l₅. alloc1 ! (λ l₆. alloc1 ! (λ l₇. alloc0 ! $ params1 ! $
@@ -142,24 +142,24 @@ module _ {M : Type 1} (𝓤 : URA M) (H : Heap 𝓤) (A : Atoms 𝓤) (W : Given
         sets ! (of-opd ! (unit-lit !)) 19 refl (tt, tt) $
         returns ! (look ! 19 refl) $ leave ! 19 refl refl $ leave ! 17 refl refl $ leave ! 15 refl refl $ leave ! 13 refl refl $
         leave ! 11 refl refl $ leave ! 9 refl refl $ leave ! 7 refl refl $ leave ! 5 refl refl $ free0 ! $
-        keep ! (0 ∷ 1 ∷ 2 ∷ 3 ∷ []) $ by ! (exits es′ (length-set es i new) (marked-within es i new within))))
+        keep ! (0 ∷ 1 ∷ 2 ∷ 3 ∷ []) $ by ! (exits es′ (length-set es i new) (entered-within es i new within))))
         (λ no-test. let past : l ≤ i = nltb→le i l no-test in
         skips ! $ exec ! C Λ (En l₀ l₁ l₂ l₃ l₄ l₅ l₆ l₇) body.t-4 (atRet (En l₀ l₁ l₂ l₃ l₄ l₅ l₆ l₇) (Walk .post y)) $
         sets ! (of-opd ! (unit-lit !)) 19 refl (tt, tt) $
         returns ! (look ! 19 refl) $ leave ! 19 refl refl $ leave ! 17 refl refl $ leave ! 15 refl refl $ leave ! 13 refl refl $ leave ! 11 refl refl $ leave ! 9 refl refl $
         move ! (7 ∷ 8 ∷ []) $ free1 ! $ move ! (5 ∷ 6 ∷ []) $ free1 ! $ free0 ! $
-        keep ! (0 ∷ 1 ∷ 2 ∷ 3 ∷ []) $ by ! (exits es refl (marked-past es i new past)))))))))))
+        keep ! (0 ∷ 1 ∷ 2 ∷ 3 ∷ []) $ by ! (exits es refl (entered-past es i new past)))))))))))
 
-mark-meets : {M : Type 1} (𝓤 : URA M) (H : Heap 𝓤) (A : Atoms 𝓤) (W : Given 𝓤 H A) (mem : Memory → SProp 𝓤) (run : Routine → Fun 𝓤) (𝓣 : Tables 𝓤 H) → Meets 𝓤 H A mark.signature (WpFn 𝓤 H (𝓣 .C) (𝓣 .Λ) code.function) (mark.spec 𝓤 H A mem run)
-mark-meets 𝓤 H A W mem run 𝓣 =
-    meets-by 𝓤 H A W mark.ended stayed (mark.clauses 𝓤 H A mem run) 𝓣 code.function (λ κs. (slice-vals, (uint-vals w64, (LL.vals T.the-type T′.the-laws, tt))))
+enter-meets : {M : Type 1} (𝓤 : URA M) (H : Heap 𝓤) (A : Atoms 𝓤) (W : Given 𝓤 H A) (mem : Memory → SProp 𝓤) (run : Routine → Fun 𝓤) (𝓣 : Tables 𝓤 H) → Meets 𝓤 H A enter.signature (WpFn 𝓤 H (𝓣 .C) (𝓣 .Λ) code.function) (enter.spec 𝓤 H A mem run)
+enter-meets 𝓤 H A W mem run 𝓣 =
+    meets-by 𝓤 H A W enter.ended stayed (enter.clauses 𝓤 H A mem run) 𝓣 code.function (λ κs. (slice-vals, (uint-vals w64, (LL.vals T.the-type T′.the-laws, tt))))
     (goes-slice 𝓤 H A W 1 0 tt (plain (λ _. R)), (goes-none 𝓤 H A W 1 (λ _. usize) yes (λ κs x f. refl), (goes-none 𝓤 H A W 1 (λ _. R) yes (λ κs x f. refl), tt)))
     (λ κs. (mut-slice-tells (named 0) (κs .0) R, (uint-tells w64, (LL.tells T.the-type T′.the-laws, tt))))
     (λ κs qs bounds a _ are. via 𝓤 _ (fst∗ 𝓤 _ (emp 𝓤)) (walk 𝓤 H A W mem run (κs .0) (qs .0) (a .0 .ptr .0) (a .0 .ptr .1) (a .0 .name) (a .0 .now) (a .1 .0) (a .1 .1 .0) (are .0 .0 .1) (are .1 .0 .1) (are .1 .1 .0) (𝓣 .C) (𝓣 .Λ)))
 
-pub mark-spec : {M : Type 1} → stated.statement M
+pub enter-spec : {M : Type 1} → stated.statement M
 unfolding code.routine tablesOf
-mark-spec 𝓤 H 𝓜 𝓖 𝓡 =
-    entered 𝓤 H (tripleOf 𝓤 H (𝓖 .A) mark.signature (mark.spec 𝓤 H (𝓖 .A) (𝓜 .mem) (𝓡 .run)))
-    (tables 𝓤 H 𝓜 𝓡 code.env .C) (tables 𝓤 H 𝓜 𝓡 code.env .Λ) #entries·mark code.function (code.unfolded 𝓤 H 𝓜 𝓡)
-    (mark-meets 𝓤 H (𝓖 .A) (givenOf 𝓤 H 𝓜 𝓖) (𝓜 .mem) (𝓡 .run) (tablesOf 𝓤 H 𝓜 (tables 𝓤 H 𝓜 𝓡 code.env)))
+enter-spec 𝓤 H 𝓜 𝓖 𝓡 =
+    entered 𝓤 H (tripleOf 𝓤 H (𝓖 .A) enter.signature (enter.spec 𝓤 H (𝓖 .A) (𝓜 .mem) (𝓡 .run)))
+    (tables 𝓤 H 𝓜 𝓡 code.env .C) (tables 𝓤 H 𝓜 𝓡 code.env .Λ) #entries·enter code.function (code.unfolded 𝓤 H 𝓜 𝓡)
+    (enter-meets 𝓤 H (𝓖 .A) (givenOf 𝓤 H 𝓜 𝓖) (𝓜 .mem) (𝓡 .run) (tablesOf 𝓤 H 𝓜 (tables 𝓤 H 𝓜 𝓡 code.env)))

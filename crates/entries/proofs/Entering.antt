@@ -1,8 +1,8 @@
--- The marking of the entries, record by record: what a turn of `entries::mark_all` finds, and what it leaves.
---     marked-within, marked-past          the place is there, or lies past all entries
+-- The entering of the entries, record by record: what a turn of `entries::enter_all` finds, and what it leaves.
+--     entered-within, entered-past          the place is there, or lies past all entries
 --     Turn         before record i: the number of the component and the count of the pairs so far, and the entries, which have these pairs
 --     start        before record 0
---     Numbered, Placed, Made, Marked, Counted     what the calls of a turn say of the component's number, the place, the entry, the entries after it, and the count
+--     Numbered, Placed, Made, Entered, Counted     what the calls of a turn say of the component's number, the place, the entry, the entries after it, and the count
 --     goes-on      before record i + 1
 --     ends         no record is left
 use mathlib.Core.Path.{_≡_, refl, sym, ap, _∙_}
@@ -19,27 +19,27 @@ use Rattle.records.specs.declared.Record.{Record}
 use Rattle.records.specs.Records.{record-at, all-records}
 use Rattle.records.specs.Order.{P-pair}
 use Rattle.records.proofs.Bytes.{length-of-records, drop-records}
-use Rattle.entries.specs.Entries.{none, numbered, entry, entries-of, marked, Keeps}
+use Rattle.entries.specs.Entries.{none, numbered, entry, entries-of, with-entry, Keeps}
 use Rattle.entries.specs.declared.Entry.{Entry}
 
 module _ (es : List Entry) (i : ℕ) (e : Entry) where
-  pub marked-within : i < length es → set es i e ≡ marked es i e
-  unfolding marked
-  marked-within within = rw (lt-ltb i (length es) within)
+  pub entered-within : i < length es → set es i e ≡ with-entry es i e
+  unfolding with-entry
+  entered-within within = rw (lt-ltb i (length es) within)
 
-  pub marked-past : length es ≤ i → es ≡ marked es i e
-  unfolding marked
-  marked-past past = rw (le-ltb i (length es) past)
+  pub entered-past : length es ≤ i → es ≡ with-entry es i e
+  unfolding with-entry
+  entered-past past = rw (le-ltb i (length es) past)
 
-  marked-here : i < length es → getD (marked es i e) i none ≡ e
-  marked-here within = ap (λ (xs : List Entry). getD xs i none) (sym (marked-within within)) ∙ getD-set-same es i e none within
+  entered-here : i < length es → getD (with-entry es i e) i none ≡ e
+  entered-here within = ap (λ (xs : List Entry). getD xs i none) (sym (entered-within within)) ∙ getD-set-same es i e none within
 
-  marked-elsewhere : (k : ℕ) → k ≢ i → getD (marked es i e) k none ≡ getD es k none
-  marked-elsewhere k other = go (ltb i (length es)) refl
+  entered-elsewhere : (k : ℕ) → k ≢ i → getD (with-entry es i e) k none ≡ getD es k none
+  entered-elsewhere k other = go (ltb i (length es)) refl
     where
-      go : (b : Bool) → ltb i (length es) ≡ b → getD (marked es i e) k none ≡ getD es k none
-      go true t = ap (λ (xs : List Entry). getD xs k none) (sym (marked-within (ltb-true i (length es) t))) ∙ getD-set-other es i k e none other
-      go false f = ap (λ (xs : List Entry). getD xs k none) (sym (marked-past (ltb-false i (length es) f)))
+      go : (b : Bool) → ltb i (length es) ≡ b → getD (with-entry es i e) k none ≡ getD es k none
+      go true t = ap (λ (xs : List Entry). getD xs k none) (sym (entered-within (ltb-true i (length es) t))) ∙ getD-set-other es i k e none other
+      go false f = ap (λ (xs : List Entry). getD xs k none) (sym (entered-past (ltb-false i (length es) f)))
 
 -- what the records name, the first one's pair apart
 module _ (n : ℕ) (r : Record) (rs : List Record) where
@@ -111,8 +111,8 @@ module _ (bs : List ℕ) where
       abbrev pub Made : (m : ℕ) (e : Entry) → Type 0
       Made m e = e ≡ entry here m
 
-      abbrev pub Marked : (s : ℕ) (e : Entry) (zs : List Entry) → Type 0
-      Marked s e zs = zs ≡ marked (t .entries) s e
+      abbrev pub Entered : (s : ℕ) (e : Entry) (zs : List Entry) → Type 0
+      Entered s e zs = zs ≡ with-entry (t .entries) s e
 
       abbrev pub Counted : (c : ℕ) → Type 0
       Counted c = c ≡ cond is-pair (suc (t .count)) (t .count)
@@ -135,7 +135,7 @@ module _ (bs : List ℕ) where
       abbrev e′ : Entry
       e′ = entry here m′
 
-      one-named : is-pair ≡ true → So-far (t .i + 1) m′ (suc (t .count)) (marked (t .entries) (t .count) e′)
+      one-named : is-pair ≡ true → So-far (t .i + 1) m′ (suc (t .count)) (with-entry (t .entries) (t .count) e′)
       one-named p = record {
         named = t .so-far .named ++ (e′ ∷ []);
         counted = length-append (t .so-far .named) (e′ ∷ []) ∙ ap (λ (k : ℕ). k + 1) (t .so-far .counted) ∙ omega arith;
@@ -143,11 +143,11 @@ module _ (bs : List ℕ) where
         are = λ k small there. go k there (ltb k (t .count)) refl small;
       }
         where
-          go : (k : ℕ) → k < 2048 → (b : Bool) → ltb k (t .count) ≡ b → k < suc (t .count) → getD (marked (t .entries) (t .count) e′) k none ≡ getD (t .so-far .named ++ (e′ ∷ [])) k none
+          go : (k : ℕ) → k < 2048 → (b : Bool) → ltb k (t .count) ≡ b → k < suc (t .count) → getD (with-entry (t .entries) (t .count) e′) k none ≡ getD (t .so-far .named ++ (e′ ∷ [])) k none
           go k there true b small =
               let before : k < t .count = ltb-true k (t .count) b in
               let c = t .so-far .counted in
-              marked-elsewhere (t .entries) (t .count) e′ k (λ same. absurd (omega arith)) ∙ t .so-far .are k before there
+              entered-elsewhere (t .entries) (t .count) e′ k (λ same. absurd (omega arith)) ∙ t .so-far .are k before there
               ∙ sym (List·getD-append (t .so-far .named) (e′ ∷ []) none k (omega arith))
           go k there false b small =
               let past : t .count ≤ k = ltb-false k (t .count) b in
@@ -155,22 +155,22 @@ module _ (bs : List ℕ) where
               let l = t .long in
               let at-count : k ≡ t .count = omega arith in
               let at-end : k ≡ length (t .so-far .named) = omega arith in
-              ap (λ (j : ℕ). getD (marked (t .entries) (t .count) e′) j none) at-count ∙ marked-here (t .entries) (t .count) e′ (omega arith)
+              ap (λ (j : ℕ). getD (with-entry (t .entries) (t .count) e′) j none) at-count ∙ entered-here (t .entries) (t .count) e′ (omega arith)
               ∙ sym (ap (λ (j : ℕ). getD (t .so-far .named ++ (e′ ∷ [])) j none) at-end ∙ getD-append-seam (t .so-far .named) e′ [] none)
 
-      none-named : is-pair ≡ false → So-far (t .i + 1) m′ (t .count) (marked (t .entries) 2048 e′)
+      none-named : is-pair ≡ false → So-far (t .i + 1) m′ (t .count) (with-entry (t .entries) 2048 e′)
       none-named p = record {
         named = t .so-far .named;
         counted = t .so-far .counted;
         left = first-left ∙ ap (λ (xs : List Entry). t .so-far .named ++ xs) (other-first (t .number) here after p);
-        are = λ k small there. marked-elsewhere (t .entries) 2048 e′ k (λ same. absurd (omega arith)) ∙ t .so-far .are k small there;
+        are = λ k small there. entered-elsewhere (t .entries) 2048 e′ k (λ same. absurd (omega arith)) ∙ t .so-far .are k small there;
       }
 
-      module _ {m s c : ℕ} {e : Entry} {zs : List Entry} (is-m : Numbered m) (is-s : Placed s) (is-e : Made m e) (said : Marked s e zs) (is-c : Counted c) where
+      module _ {m s c : ℕ} {e : Entry} {zs : List Entry} (is-m : Numbered m) (is-s : Placed s) (is-e : Made m e) (said : Entered s e zs) (is-c : Counted c) where
         pub next-so-far : So-far (t .i + 1) m c zs
         next-so-far = rw (said, is-c, is-s, is-e, is-m .0) (go is-pair refl)
           where
-            go : (b : Bool) → is-pair ≡ b → So-far (t .i + 1) m′ (cond b (suc (t .count)) (t .count)) (marked (t .entries) (cond b (t .count) 2048) e′)
+            go : (b : Bool) → is-pair ≡ b → So-far (t .i + 1) m′ (cond b (suc (t .count)) (t .count)) (with-entry (t .entries) (cond b (t .count) 2048) e′)
             go true p = one-named p
             go false p = none-named p
 
