@@ -21,6 +21,11 @@ ghost use Rattle.certificates.specs.CertificateReading.{Certificate-reading, ce
 ghost use Rattle.certificate_reader.specs.Working.{key, Sound-state, Mirrors, Goes-on, Steps-as};
 ghost use mathlib.Core.Option.{some};
 
+// Document 01's limits on a component's pairs and weightings, as wide as the fields that hold them.
+const MOST_PAIRS: u16 = records::MOST_PAIRS as u16;
+
+const MOST_WEIGHTINGS: u16 = 1;
+
 // Two numbers as one that rises with them.
 fn key(a: u16, b: u16) -> u64
     ensures { λ r. ⌜ (r ≡ key a b) × (r ≤ 4294967296) ⌝ }
@@ -45,13 +50,13 @@ fn component(r: Record, s: State) -> Stepped
             return Stepped::Refused(Refusal::StrayRecord);
         }
     }
-    if 1 < r.b {
+    if MOST_WEIGHTINGS < r.b {
         return Stepped::Refused(Refusal::OutOfRange);
     }
     if r.c < 1 {
         return Stepped::Refused(Refusal::OutOfRange);
     }
-    if 2048 < r.c {
+    if MOST_PAIRS < r.c {
         return Stepped::Refused(Refusal::OutOfRange);
     }
     Stepped::On(State {

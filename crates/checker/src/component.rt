@@ -1,7 +1,10 @@
 // Each component in turn: 10, or 11, 12, 13.
 use records::Answer;
 use records::Refusal;
+use terms::MOST_NODES;
+use terms::MOST_SYMBOLS;
 use weights::Verdict;
+use weights::table::CELLS;
 ghost use mathlib.Core.Path.{_≡_};
 ghost use mathlib.Core.Bool.{false};
 ghost use mathlib.Core.List.{List, []};
@@ -42,7 +45,7 @@ fn choose(rules: Verdict, calls: Verdict, next: usize) -> Answer
 }
 
 // Puts the W records from record `from` on into the table, in place of those from record `before` on. Answers the record after them.
-fn refill(certificate: &[u8], before: usize, from: usize, table: &mut [u16; 1152]) -> usize
+fn refill(certificate: &[u8], before: usize, from: usize, table: &mut [u16; CELLS]) -> usize
     requires { ⌜ (length (now certificate) % 8 ≡ 0) × (length (now certificate) ≤ 24576) × ((ws : List Weight) × Weights-at (now certificate) from W-weight ws) × (before ≡ 0 → Table-is (now table) []) × (0 < before → ((vs : List Weight) × Weights-at (now certificate) before W-weight vs × Table-is (now table) vs)) ⌝ }
     ensures filled { λ r. ⌜ ((ws : List Weight) → Weights-at (now (certificate .entry)) from W-weight ws → (r ≡ from + length ws) × Table-is (now (table .exit)) ws) ⌝ }
     ensures marked { λ _. ⌜ ((ms : List Weight) → Marked-is (now (table .entry)) ms → Marked-is (now (table .exit)) ms) ⌝ }
@@ -62,10 +65,10 @@ fn judge_calls(
     count: usize,
     middle: usize,
     verdict: Verdict,
-    arities: &[u8; 64],
-    table: &mut [u16; 1152],
+    arities: &[u8; MOST_SYMBOLS],
+    table: &mut [u16; CELLS],
     starts: &[u16],
-    nodes: &[u8; 4096],
+    nodes: &[u8; MOST_NODES],
     defined: &[u8],
     rules: usize,
 ) -> Answer
@@ -95,10 +98,10 @@ fn judge_marked(
     count: usize,
     middle: usize,
     verdict: Verdict,
-    arities: &[u8; 64],
-    table: &mut [u16; 1152],
+    arities: &[u8; MOST_SYMBOLS],
+    table: &mut [u16; CELLS],
     starts: &[u16],
-    nodes: &[u8; 4096],
+    nodes: &[u8; MOST_NODES],
     defined: &[u8],
     rules: usize,
 ) -> Answer
@@ -143,10 +146,10 @@ fn weighted(
     at: usize,
     count: usize,
     before: usize,
-    table: &mut [u16; 1152],
-    arities: &[u8; 64],
+    table: &mut [u16; CELLS],
+    arities: &[u8; MOST_SYMBOLS],
     starts: &[u16],
-    nodes: &[u8; 4096],
+    nodes: &[u8; MOST_NODES],
     defined: &[u8],
     rules: usize,
 ) -> Answer
@@ -191,9 +194,9 @@ fn weighted(
 fn unweighted(
     certificate: &[u8],
     at: usize,
-    arities: &[u8; 64],
+    arities: &[u8; MOST_SYMBOLS],
     starts: &[u16],
-    nodes: &[u8; 4096],
+    nodes: &[u8; MOST_NODES],
     defined: &[u8],
     rules: usize,
 ) -> Answer
@@ -214,10 +217,10 @@ fn judge_component(
     certificate: &[u8],
     at: usize,
     before: usize,
-    table: &mut [u16; 1152],
-    arities: &[u8; 64],
+    table: &mut [u16; CELLS],
+    arities: &[u8; MOST_SYMBOLS],
     starts: &[u16],
-    nodes: &[u8; 4096],
+    nodes: &[u8; MOST_NODES],
     defined: &[u8],
     rules: usize,
 ) -> Answer
@@ -259,15 +262,15 @@ pub fn judge_components(
     certificate: &[u8],
     components: usize,
     rules: usize,
-    arities: &[u8; 64],
+    arities: &[u8; MOST_SYMBOLS],
     starts: &[u16],
-    nodes: &[u8; 4096],
+    nodes: &[u8; MOST_NODES],
     defined: &[u8],
 ) -> Answer
     requires { ⌜ (length (now certificate) % 8 ≡ 0) × (length (now certificate) ≤ 24576) × Kept-pack rules (now arities) (now starts) (now nodes) (now defined) × ((p : System) × Components-from p (now certificate) components rules (now arities) (now starts) (now nodes) (now defined)) ⌝ }
     ensures { λ r. ⌜ ((p : System) (a : Components-from p (now (certificate .entry)) components rules (now (arities .entry)) (now (starts .entry)) (now (nodes .entry)) (now (defined .entry))) → refusal (answer-outcome r) ≡ components-refusal p (plain p) (a .all)) ⌝ }
 {
-    let mut table = [0u16; 1152];
+    let mut table = [0u16; CELLS];
     let mut before = 0;
     let mut at = 0;
     let mut i = 0;

@@ -3,6 +3,8 @@ mod component;
 mod weighing;
 
 use records::Answer;
+use terms::MOST_NODES;
+use terms::MOST_SYMBOLS;
 ghost use Prim.Native.Nat.{_%_, _≤_};
 ghost use mathlib.Core.Path.{_≡_};
 ghost use lib.ListN.{length};
@@ -17,9 +19,9 @@ pub fn judge(
     certificate: &[u8],
     components: usize,
     rules: usize,
-    arities: &[u8; 64],
+    arities: &[u8; MOST_SYMBOLS],
     starts: &[u16],
-    nodes: &[u8; 4096],
+    nodes: &[u8; MOST_NODES],
     defined: &[u8],
 ) -> Answer
     requires { ⌜ (length (now certificate) % 8 ≡ 0) × (length (now certificate) ≤ 24576) × Kept-pack rules (now arities) (now starts) (now nodes) (now defined) × ((p : System) × Judgeable p (now certificate) components rules (now arities) (now starts) (now nodes) (now defined)) ⌝ }

@@ -1,8 +1,12 @@
 // The weights of a component in the table, and all rules and its pairs under them.
 use records::Record;
+use terms::MOST_NODES;
+use terms::MOST_SYMBOLS;
 use terms::Marked;
 use terms::Symbol;
 use weights::Verdict;
+use weights::sums::SUMS;
+use weights::table::CELLS;
 ghost use mathlib.Core.Path.{_≡_};
 ghost use mathlib.Core.Bool.{true, false, not};
 ghost use mathlib.Core.List.{List, []};
@@ -21,8 +25,11 @@ ghost use Rattle.pair_finder.specs.Walking.{Kept-pack};
 ghost use Rattle.partition.specs.Working.{All-pairs};
 ghost use Rattle.checker.specs.Working.{Weights-at, Same-weights, Pairs-at, own-base, Others-stay};
 
+// Above the number of every rule.
+const NO_RULE: usize = 65536;
+
 // Stores a value in the cell of a weight record: W is of a symbol, M of a tuple symbol.
-fn store(table: &mut [u16; 1152], r: Record, value: u16)
+fn store(table: &mut [u16; CELLS], r: Record, value: u16)
     requires { ⌜ (r .a < 64) × (r .b ≤ 8) ⌝ }
     ensures { λ _. ⌜ now (table .exit) ≡ set (now (table .entry)) (own-base (r .kind) + (9 * r .a + r .b)) value ⌝ }
 {
@@ -35,7 +42,7 @@ fn store(table: &mut [u16; 1152], r: Record, value: u16)
 }
 
 // Fills the table from the weight records of a kind that stand from record `from` on. Answers the record after them.
-pub fn fill(certificate: &[u8], from: usize, kind: u8, table: &mut [u16; 1152]) -> usize
+pub fn fill(certificate: &[u8], from: usize, kind: u8, table: &mut [u16; CELLS]) -> usize
     requires { ⌜ (length (now certificate) % 8 ≡ 0) × (length (now certificate) ≤ 24576) × Cells-are (own-base kind) (now table) [] × ((ws : List Weight) × Weights-at (now certificate) from kind ws) ⌝ }
     ensures filled { λ r. ⌜ ((ws : List Weight) → Weights-at (now (certificate .entry)) from kind ws → (r ≡ from + length ws) × Cells-are (own-base kind) (now (table .exit)) ws) ⌝ }
     ensures others { λ _. ⌜ Others-stay kind (now (table .entry)) (now (table .exit)) ⌝ }
@@ -54,7 +61,7 @@ pub fn fill(certificate: &[u8], from: usize, kind: u8, table: &mut [u16; 1152]) 
 }
 
 // Clears the table by the weight records that filled it, which stand from record `from` on.
-pub fn clear(certificate: &[u8], from: usize, kind: u8, table: &mut [u16; 1152])
+pub fn clear(certificate: &[u8], from: usize, kind: u8, table: &mut [u16; CELLS])
     requires { ⌜ ((ws : List Weight) × Weights-at (now certificate) from kind ws × Cells-are (own-base kind) (now table) ws) ⌝ }
     ensures cleared { λ _. ⌜ Cells-are (own-base kind) (now (table .exit)) [] ⌝ }
     ensures others { λ _. ⌜ Others-stay kind (now (table .entry)) (now (table .exit)) ⌝ }
@@ -122,10 +129,10 @@ pub fn same_weights(certificate: &[u8], before: usize, from: usize) -> usize
 
 // All rules: over if one is, else failing if one fails.
 pub fn judge_rules(
-    arities: &[u8; 64],
-    table: &[u16; 1152],
+    arities: &[u8; MOST_SYMBOLS],
+    table: &[u16; CELLS],
     starts: &[u16],
-    nodes: &[u8; 4096],
+    nodes: &[u8; MOST_NODES],
     defined: &[u8],
     rules: usize,
 ) -> Verdict
@@ -161,18 +168,18 @@ pub fn judge_pairs(
     certificate: &[u8],
     from: usize,
     count: usize,
-    arities: &[u8; 64],
-    table: &[u16; 1152],
+    arities: &[u8; MOST_SYMBOLS],
+    table: &[u16; CELLS],
     starts: &[u16],
-    nodes: &[u8; 4096],
+    nodes: &[u8; MOST_NODES],
     defined: &[u8],
     rules: usize,
 ) -> Verdict
     requires { ⌜ (length (now certificate) % 8 ≡ 0) × (length (now certificate) ≤ 24576) × Kept-pack rules (now arities) (now starts) (now nodes) (now defined) × ((p : System) × (symbols : ℕ) × (qs : List Pair) × Stored p symbols rules (now arities) (now starts) (now nodes) (now defined) × All-pairs p qs × Pairs-at (now certificate) from qs × (length qs ≡ count)) ⌝ }
     ensures { λ r. ⌜ ((p : System) (symbols : ℕ) (qs : List Pair) (ws ms : List Weight) → Stored p symbols rules (now (arities .entry)) (now (starts .entry)) (now (nodes .entry)) (now (defined .entry)) → All-pairs p qs → Pairs-at (now (certificate .entry)) from qs → length qs ≡ count → Table-is (now (table .entry)) ws → Marked-is (now (table .entry)) ms → any (rule-over (record { weights = ws; marked = ms })) (p .rules) ≡ false → r ≡ verdict (any (call-over (record { weights = ws; marked = ms })) (calls p qs)) (is-none (without (call-falls (record { weights = ws; marked = ms })) (calls p qs)))) ⌝ }
 {
-    let mut sums = [0u64; 17];
-    let mut last = 65536;
+    let mut sums = [0u64; SUMS];
+    let mut last = NO_RULE;
     let mut failed = false;
     let mut i = 0;
     while i < count {
@@ -183,7 +190,7 @@ pub fn judge_pairs(
         let end = starts[2 * rule + 2] as usize;
         let right = middle + r.b as usize;
         if rule != last {
-            sums = [0u64; 17];
+            sums = [0u64; SUMS];
             weights::judging::marked_side(
                 arities,
                 table,

@@ -1,4 +1,5 @@
 // The pairs that a certificate names, kept as entries of rule, place and component.
+use records::MOST_PAIRS;
 use records::Record;
 ghost use mathlib.Core.Path.{_≡_};
 ghost use mathlib.Core.Bool.{cond};
@@ -17,7 +18,7 @@ pub struct Entry {
 
 // The entries of the pairs that a certificate names, in its order, and how many there are. The count last, for a quick copy: DECISIONS 35.
 pub struct Store {
-    pub entries: [Entry; 2048],
+    pub entries: [Entry; MOST_PAIRS],
     pub count: usize,
 }
 
@@ -42,7 +43,7 @@ fn place_at(certificate: &[u8], i: usize, count: usize) -> usize
     if r.kind == b'P' {
         return count;
     }
-    2048
+    MOST_PAIRS
 }
 
 // How many pairs there are up to and with record i.
@@ -108,7 +109,7 @@ pub fn keep(certificate: &[u8]) -> Store
         rule: 0,
         place: 0,
         component: 0,
-    }; 2048];
+    }; MOST_PAIRS];
     let count = enter_all(certificate, &mut entries);
     Store { entries, count }
 }

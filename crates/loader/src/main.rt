@@ -15,12 +15,12 @@ use teldyzhom::Checked;
 const STATUS_FILENO: i32 = 3;
 
 // One byte more than the limit of a file is enough to see that it is too long.
-const PACK_ROOM: usize = 33793;
+const PACK_ROOM: usize = records::MOST_PACK_BYTES + 1;
 
-const CERTIFICATE_ROOM: usize = 24577;
+const CERTIFICATE_ROOM: usize = records::MOST_CERTIFICATE_BYTES + 1;
 
 // A list of 2,048 pairs, the most there can be.
-const LIST_ROOM: usize = 16384;
+const LIST_ROOM: usize = 8 * records::MOST_PAIRS;
 
 // How a run ended: accepted, yes or a listing; refused or no; or nothing could be judged.
 enum Ended {

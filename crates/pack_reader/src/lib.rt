@@ -5,12 +5,19 @@ pub mod sides;
 mod symbols;
 
 use records::Answer;
+use records::MOST_PACK_BYTES;
 use records::Refusal;
 ghost use Prim.Native.Nat.{_≤_};
 ghost use mathlib.Core.Path.{_≡_};
 ghost use lib.ListN.{length};
 ghost use Rattle.packs.specs.PackReading.{read-pack};
 ghost use Rattle.pack_reader.specs.Stored.{Pack-read};
+
+// Document 01's limit on a pack's rules.
+pub const MOST_RULES: usize = 64;
+
+// Where each side's nodes start, and where the last one's end.
+pub const STARTS: usize = 2 * MOST_RULES + 1;
 
 // How many symbols and rules a pack has.
 pub struct Counts {
@@ -35,7 +42,7 @@ pub fn read_pack(
     requires { ⌜ (length (now arities) ≡ 64) × (length (now starts) ≡ 129) × (length (now nodes) ≡ 4096) × (length (now defined) ≡ 64) ⌝ }
     ensures { λ r. ⌜ Pack-read (read-pack (now (pack .entry))) r (now (arities .exit)) (now (starts .exit)) (now (nodes .exit)) (now (defined .exit)) ⌝ }
 {
-    if 33792 < pack.len() {
+    if MOST_PACK_BYTES < pack.len() {
         return PackRead::Refused(Refusal::CutFile);
     }
     if pack.len() % 8 != 0 {

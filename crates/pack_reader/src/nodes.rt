@@ -3,6 +3,8 @@ use records::Answer;
 use records::Record;
 use records::Refusal;
 use records::Wanted;
+use terms::MOST_SYMBOLS;
+use terms::MOST_VARIABLES;
 ghost use mathlib.Core.Path.{_≡_};
 ghost use Prim.Native.Nat.{_+_, _%_, _≤_};
 ghost use lib.ListN.{length, drop};
@@ -26,8 +28,8 @@ pub fn node_code(r: Record, symbols: usize) -> Answer
     }
     let a = r.a as usize;
     if r.kind == b'V' {
-        if a < 16 {
-            return Answer::Passed(64 + a);
+        if a < MOST_VARIABLES {
+            return Answer::Passed(MOST_SYMBOLS + a);
         }
         return Answer::Refused(Refusal::OutOfRange);
     }
@@ -68,7 +70,7 @@ pub fn read_nodes(
             Answer::Passed(code) => {
                 nodes[base + j] = code as u8;
                 // F's row, or V's, which comes next.
-                last = 3 + code / 64;
+                last = 3 + code / MOST_SYMBOLS;
                 j = j + 1;
             }
         }

@@ -1,8 +1,10 @@
 // The rules of a pack.
+use crate::MOST_RULES;
 use records::Answer;
 use records::Record;
 use records::Refusal;
 use records::Wanted;
+use terms::MOST_SYMBOLS;
 ghost use mathlib.Core.Path.{_≡_};
 ghost use mathlib.Core.List.{[]};
 ghost use Prim.Native.Nat.{ℕ, _+_, _*_, _%_, _≤_, _<_};
@@ -11,6 +13,9 @@ ghost use Rattle.records.specs.Answers.{answer-outcome};
 ghost use Rattle.records.specs.Records.{all-records, record-at};
 ghost use Rattle.packs.specs.PackReading.{pack-from, between-rules};
 ghost use Rattle.pack_reader.specs.Stored.{rule-header, node-steps, Rule-read, Rules-read, row-after, Flagged};
+
+// Document 01's limit on the nodes of a side.
+const MOST_SIDE_NODES: u16 = 32;
 
 // R's fields: 2, then 3.
 fn header(r: Record, i: usize) -> Answer
@@ -22,19 +27,19 @@ fn header(r: Record, i: usize) -> Answer
     if r.a as usize != i {
         return Answer::Refused(Refusal::StrayRecord);
     }
-    if 64 <= i {
+    if MOST_RULES <= i {
         return Answer::Refused(Refusal::OutOfRange);
     }
     if r.b < 1 {
         return Answer::Refused(Refusal::OutOfRange);
     }
-    if 32 < r.b {
+    if MOST_SIDE_NODES < r.b {
         return Answer::Refused(Refusal::OutOfRange);
     }
     if r.c < 1 {
         return Answer::Refused(Refusal::OutOfRange);
     }
-    if 32 < r.c {
+    if MOST_SIDE_NODES < r.c {
         return Answer::Refused(Refusal::OutOfRange);
     }
     Answer::Passed(0)
@@ -153,7 +158,7 @@ pub fn flag_defined(starts: &[u16], nodes: &[u8], rules: usize, defined: &mut [u
     while i < rules {
         let at = starts[2 * i] as usize;
         let c = nodes[at] as usize;
-        if c < 64 {
+        if c < MOST_SYMBOLS {
             defined[c] = 1;
         }
         i = i + 1;

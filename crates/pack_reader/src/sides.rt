@@ -1,6 +1,9 @@
 // The sides of a rule in bytes: 4, 5, 6.
 use records::Answer;
 use records::Refusal;
+use terms::FIRST_VARIABLE;
+use terms::MOST_SYMBOLS;
+use terms::MOST_VARIABLES;
 ghost use mathlib.Core.Path.{_≡_};
 ghost use Prim.Native.Nat.{_≤_, _<_};
 ghost use mathlib.Core.Bool.{true, false};
@@ -8,6 +11,9 @@ ghost use lib.ListN.{length, replicate};
 ghost use Rattle.records.specs.Answers.{answer-outcome};
 ghost use Rattle.terms.specs.Kept.{balanced, part};
 ghost use Rattle.pack_reader.specs.Stored.{all-seen, Seen-in, rule-judged};
+
+// The byte after those of the variables.
+const PAST_VARIABLES: usize = MOST_SYMBOLS + MOST_VARIABLES;
 
 // What a right side is: exactly one term or not, and each variable in it seen on the left or not.
 pub struct RightSide {
@@ -27,10 +33,10 @@ fn left_side(arities: &[u8], nodes: &[u8], from: usize, to: usize, seen: &mut [b
             return false;
         }
         let c = nodes[i] as usize;
-        if c < 64 {
+        if c < MOST_SYMBOLS {
             wanted = wanted + arities[c] as usize;
-        } else if c < 80 {
-            seen[c - 64] = true;
+        } else if c < PAST_VARIABLES {
+            seen[c - MOST_SYMBOLS] = true;
         }
         wanted = wanted - 1;
         i = i + 1;
@@ -51,11 +57,11 @@ fn right_side(arities: &[u8], nodes: &[u8], from: usize, to: usize, seen: &[bool
             return RightSide { one: false, closed };
         }
         let c = nodes[i] as usize;
-        if c < 64 {
+        if c < MOST_SYMBOLS {
             wanted = wanted + arities[c] as usize;
-        } else if 80 <= c {
+        } else if PAST_VARIABLES <= c {
             closed = false;
-        } else if !seen[c - 64] {
+        } else if !seen[c - MOST_SYMBOLS] {
             closed = false;
         }
         wanted = wanted - 1;
@@ -72,7 +78,7 @@ pub fn judge_rule(arities: &[u8], nodes: &[u8], left: usize, right: usize, end: 
     requires { ⌜ (length (now arities) ≡ 64) × (left < right) × (right ≤ end) × (end ≤ length (now nodes)) × (end ≤ 65536) ⌝ }
     ensures { λ r. ⌜ answer-outcome r ≡ rule-judged (now (arities .entry)) (part (now (nodes .entry)) left right) (part (now (nodes .entry)) right end) ⌝ }
 {
-    let mut seen = [false; 16];
+    let mut seen = [false; MOST_VARIABLES];
     if !left_side(arities, nodes, left, right, &mut seen) {
         return Answer::Refused(Refusal::BrokenSide);
     }
@@ -80,7 +86,7 @@ pub fn judge_rule(arities: &[u8], nodes: &[u8], left: usize, right: usize, end: 
     if !r.one {
         return Answer::Refused(Refusal::BrokenSide);
     }
-    if 64 <= nodes[left] {
+    if FIRST_VARIABLE <= nodes[left] {
         return Answer::Refused(Refusal::BareLeft);
     }
     if r.closed {

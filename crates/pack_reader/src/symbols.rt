@@ -3,12 +3,16 @@ use records::Answer;
 use records::Record;
 use records::Refusal;
 use records::Wanted;
+use terms::MOST_SYMBOLS;
 ghost use mathlib.Core.Path.{_≡_};
 ghost use Prim.Native.Nat.{_%_, _≤_};
 ghost use lib.ListN.{length};
 ghost use Rattle.records.specs.Answers.{answer-outcome};
 ghost use Rattle.records.specs.Records.{all-records};
 ghost use Rattle.pack_reader.specs.Stored.{arity-outcome, symbol-steps, Symbols-read};
+
+// Document 01's limit on a symbol's arguments.
+const MOST_ARITY: u16 = 8;
 
 // The arity that symbol i's record gives: 2, then 3.
 fn arity_of(r: Record, i: usize) -> Answer
@@ -23,10 +27,10 @@ fn arity_of(r: Record, i: usize) -> Answer
     if r.a as usize != i {
         return Answer::Refused(Refusal::StrayRecord);
     }
-    if 64 <= i {
+    if MOST_SYMBOLS <= i {
         return Answer::Refused(Refusal::OutOfRange);
     }
-    if 8 < r.b {
+    if MOST_ARITY < r.b {
         return Answer::Refused(Refusal::OutOfRange);
     }
     Answer::Passed(r.b as usize)

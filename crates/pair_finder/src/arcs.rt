@@ -1,6 +1,7 @@
 // Arcs between pairs of a pack that was read.
 use records::Answer;
 use records::Refusal;
+use terms::FIRST_VARIABLE;
 ghost use mathlib.Core.Path.{_≡_};
 ghost use mathlib.Core.List.{List};
 ghost use Prim.Native.Nat.{ℕ, _+_, _≤_};
@@ -18,10 +19,10 @@ fn jumps(defined: &[u8], c: u8, d: u8) -> bool
     requires { ⌜ length (now defined) ≡ 64 ⌝ }
     ensures { λ r. ⌜ r ≡ jumps (now (defined .entry)) c d ⌝ }
 {
-    if 64 <= d {
+    if FIRST_VARIABLE <= d {
         return true;
     }
-    if 64 <= c {
+    if FIRST_VARIABLE <= c {
         return true;
     }
     crate::listing::is_defined(defined, c)

@@ -1,4 +1,5 @@
 // The pairs of a pack that was read, and their records.
+use terms::MOST_SYMBOLS;
 ghost use mathlib.Core.Path.{_≡_};
 ghost use mathlib.Core.List.{_++_, map};
 ghost use Prim.Native.Nat.{_+_, _*_, _≤_, _<_};
@@ -14,7 +15,7 @@ pub fn is_defined(defined: &[u8], code: u8) -> bool
     ensures { λ r. ⌜ r ≡ is-defined (now (defined .entry)) code ⌝ }
 {
     let c = code as usize;
-    if c < 64 {
+    if c < MOST_SYMBOLS {
         return defined[c] == 1;
     }
     false

@@ -1,7 +1,10 @@
 // 8 and 9: every pair stands once, and no arc leads back to a lower component.
 use entries::Entry;
+use pack_reader::MOST_RULES;
 use records::Answer;
+use records::MOST_PAIRS;
 use records::Refusal;
+use terms::MOST_SYMBOLS;
 ghost use mathlib.Core.Path.{_≡_};
 ghost use mathlib.Core.Bool.{true, cond};
 ghost use mathlib.Core.List.{List};
@@ -13,6 +16,12 @@ ghost use Rattle.rewriting.specs.Pairs.{Pair, is-pair};
 ghost use Rattle.pack_reader.specs.Stored.{Stored};
 ghost use Rattle.pair_finder.specs.Walking.{Kept-pack, Pair-kept};
 ghost use Rattle.partition.specs.Working.{named, slot, back-to, back-at, Begun, Keys, Roots, Keyed, Judgeable, Ordered-as};
+
+// A right side has at most so many places.
+const PLACES: usize = 32;
+
+// Above the number of every component.
+const NO_COMPONENT: u16 = 65535;
 
 // Lowers entry s to this component.
 fn lower(lows: &mut [u16], s: usize, number: u16)
@@ -35,7 +44,7 @@ fn note(e: Entry, lows: &mut [u16], seen: &mut [u8]) -> bool
     ensures takes { λ r. ⌜ (r ≡ ltb 0 (getD (now (seen .entry)) (slot e) 0)) × (now (seen .exit) ≡ set (now (seen .entry)) (slot e) 1) ⌝ }
 {
     lower(lows, e.rule as usize, e.component);
-    let slot = 32 * (e.rule as usize) + e.place as usize;
+    let slot = PLACES * (e.rule as usize) + e.place as usize;
     let before = seen[slot];
     seen[slot] = 1;
     0 < before
@@ -148,8 +157,8 @@ pub fn judge(
     if n != pair_finder::listing::count_pairs(starts, nodes, defined, rules) {
         return Answer::Refused(Refusal::PairCount);
     }
-    let mut lows = [65535u16; 64];
-    let mut seen = [0u8; 2048];
+    let mut lows = [NO_COMPONENT; MOST_RULES];
+    let mut seen = [0u8; MOST_PAIRS];
     let mut i = 0;
     while i < n {
         let e = store.entries[i];
@@ -162,9 +171,9 @@ pub fn judge(
     if components <= 1 {
         return Answer::Passed(0);
     }
-    let mut keys = [0u32; 64];
+    let mut keys = [0u32; MOST_RULES];
     keep_keys(starts, nodes, rules, &lows, &mut keys);
-    let mut roots = [65535u16; 64];
+    let mut roots = [NO_COMPONENT; MOST_SYMBOLS];
     lowest_of_roots(starts, nodes, rules, &lows, &mut roots);
     i = 0;
     while i < n {

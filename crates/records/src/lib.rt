@@ -10,6 +10,13 @@ ghost use Rattle.records.specs.Records.{two, record-at, all-bytes};
 ghost use Rattle.records.specs.Wanted.{wanted-at};
 ghost use Rattle.records.specs.Answers.{number-of};
 
+// Document 01's limits on a pack's bytes, a certificate's bytes and a pack's pairs.
+pub const MOST_PACK_BYTES: usize = 33792;
+
+pub const MOST_CERTIFICATE_BYTES: usize = 24576;
+
+pub const MOST_PAIRS: usize = 2048;
+
 // A record as its fields. Byte 0 is the kind, byte 1 is `one`, and a, b and c are two bytes each, low byte first.
 pub struct Record {
     pub kind: u8,

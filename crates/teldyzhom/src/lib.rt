@@ -2,9 +2,13 @@
 mod c;
 
 use pack_reader::PackRead;
+use pack_reader::STARTS;
 use pairs::ArcAnswer;
 use records::Answer;
+use records::MOST_CERTIFICATE_BYTES;
 use records::Refusal;
+use terms::MOST_NODES;
+use terms::MOST_SYMBOLS;
 ghost use mathlib.Core.Path.{_≡_};
 ghost use lib.ListN.{length};
 ghost use Rattle.pairs.specs.Listing.{a-pair};
@@ -23,16 +27,16 @@ pub enum Checked {
 fn judge_files(pack: &[u8], certificate: &[u8]) -> Checked
     ensures { λ r. ⌜ checked-number r ≡ check (now (pack .entry)) (now (certificate .entry)) ⌝ }
 {
-    if 24576 < certificate.len() {
+    if MOST_CERTIFICATE_BYTES < certificate.len() {
         return Checked::Refused(Refusal::CutFile);
     }
     if certificate.len() % 8 != 0 {
         return Checked::Refused(Refusal::CutFile);
     }
-    let mut arities = [0u8; 64];
-    let mut starts = [0u16; 129];
-    let mut nodes = [0u8; 4096];
-    let mut defined = [0u8; 64];
+    let mut arities = [0u8; MOST_SYMBOLS];
+    let mut starts = [0u16; STARTS];
+    let mut nodes = [0u8; MOST_NODES];
+    let mut defined = [0u8; MOST_SYMBOLS];
     match pack_reader::read_pack(pack, &mut arities, &mut starts, &mut nodes, &mut defined) {
         PackRead::Refused(x) => Checked::Refused(x),
         PackRead::Read(c) => {
@@ -84,10 +88,10 @@ pub fn list_pairs(pack: &[u8], list: &mut [u8]) -> Answer
     ensures says { λ r. ⌜ Listed-as (listing (now (pack .entry)) (length (now (list .entry)))) r ⌝ }
     ensures leaves { λ _. ⌜ now (list .exit) ≡ buffer-after (listing (now (pack .entry)) (length (now (list .entry)))) (now (list .entry)) ⌝ }
 {
-    let mut arities = [0u8; 64];
-    let mut starts = [0u16; 129];
-    let mut nodes = [0u8; 4096];
-    let mut defined = [0u8; 64];
+    let mut arities = [0u8; MOST_SYMBOLS];
+    let mut starts = [0u16; STARTS];
+    let mut nodes = [0u8; MOST_NODES];
+    let mut defined = [0u8; MOST_SYMBOLS];
     match pack_reader::read_pack(pack, &mut arities, &mut starts, &mut nodes, &mut defined) {
         PackRead::Refused(x) => Answer::Refused(x),
         PackRead::Read(c) => {
@@ -106,10 +110,10 @@ pub fn list_pairs(pack: &[u8], list: &mut [u8]) -> Answer
 pub fn arc_runs(pack: &[u8], rule: u32, place: u32, other_rule: u32, other_place: u32) -> ArcAnswer
     ensures { λ r. ⌜ Arc-as (arc-question (now (pack .entry)) (a-pair rule place) (a-pair «other_rule» «other_place»)) r ⌝ }
 {
-    let mut arities = [0u8; 64];
-    let mut starts = [0u16; 129];
-    let mut nodes = [0u8; 4096];
-    let mut defined = [0u8; 64];
+    let mut arities = [0u8; MOST_SYMBOLS];
+    let mut starts = [0u16; STARTS];
+    let mut nodes = [0u8; MOST_NODES];
+    let mut defined = [0u8; MOST_SYMBOLS];
     match pack_reader::read_pack(pack, &mut arities, &mut starts, &mut nodes, &mut defined) {
         PackRead::Refused(x) => ArcAnswer::Refused(x),
         PackRead::Read(c) => {

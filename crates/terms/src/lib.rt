@@ -5,6 +5,16 @@ ghost use lib.ListN.{length};
 ghost use Rattle.terms.specs.Sides.{flat};
 ghost use Rattle.terms.specs.Kept.{code-arity, Term-at};
 
+// Document 01's limits on a pack's symbols, on its variables, and on the nodes of all its rules.
+pub const MOST_SYMBOLS: usize = 64;
+
+pub const MOST_VARIABLES: usize = 16;
+
+pub const MOST_NODES: usize = 4096;
+
+// A node's byte is a symbol's number, or from here on a variable's.
+pub const FIRST_VARIABLE: u8 = MOST_SYMBOLS as u8;
+
 // A plain symbol, and the tuple symbol (document 01: marked symbol) of a defined one: never taken for each other.
 pub struct Symbol(pub u16);
 
@@ -16,7 +26,7 @@ pub fn code_arity(arities: &[u8], code: u8) -> usize
     ensures { λ r. ⌜ (r ≡ code-arity (now (arities .entry)) code) × (r < 256) ⌝ }
 {
     let c = code as usize;
-    if c < 64 {
+    if c < MOST_SYMBOLS {
         return arities[c] as usize;
     }
     0

@@ -1,5 +1,10 @@
 // One rule, and one pair, under the weights of the table.
 use crate::Verdict;
+use crate::sums::BEFORE_VARIABLES;
+use crate::sums::SUMS;
+use crate::table::CELLS;
+use terms::MOST_NODES;
+use terms::MOST_SYMBOLS;
 use terms::Marked;
 use terms::Symbol;
 ghost use mathlib.Core.Path.{_≡_};
@@ -17,12 +22,12 @@ ghost use Rattle.weights.specs.Working.{Weighable, Applied, rooted, root
 
 // The polynomial of the side of a rule that is kept at `at`, of at most `left` nodes, in sums that were 0.
 fn side(
-    arities: &[u8; 64],
-    table: &[u16; 1152],
-    nodes: &[u8; 4096],
+    arities: &[u8; MOST_SYMBOLS],
+    table: &[u16; CELLS],
+    nodes: &[u8; MOST_NODES],
     at: usize,
     left: usize,
-    sums: &mut [u64; 17],
+    sums: &mut [u64; SUMS],
 )
     requires { ⌜ (length (now nodes) ≤ 4096) × Weighable (now arities) (now nodes) at left × (now sums ≡ replicate 17 0) ⌝ }
     ensures { λ _. ⌜ ((w : Weighable (now (arities .entry)) (now (nodes .entry)) at left) (ws : List Weight) → Table-is (now (table .entry)) ws → Summed (rooted-over ws ws (w .term)) (rooted ws ws (w .term)) (now (sums .exit))) ⌝ }
@@ -30,8 +35,8 @@ fn side(
 {
     let code = nodes[at];
     let c = code as usize;
-    if 64 <= c {
-        sums[c - 63] = 1;
+    if MOST_SYMBOLS <= c {
+        sums[c - BEFORE_VARIABLES] = 1;
         return;
     }
     let row = crate::table::row_of(Symbol(code as u16));
@@ -40,9 +45,9 @@ fn side(
 
 // The rule whose sides are kept from `left` to `right` and from there to `end`: holds if its left is at least its right.
 pub fn judge_rule(
-    arities: &[u8; 64],
-    table: &[u16; 1152],
-    nodes: &[u8; 4096],
+    arities: &[u8; MOST_SYMBOLS],
+    table: &[u16; CELLS],
+    nodes: &[u8; MOST_NODES],
     left: usize,
     right: usize,
     end: usize,
@@ -50,12 +55,12 @@ pub fn judge_rule(
     requires { ⌜ (length (now nodes) ≤ 4096) × (left ≤ right) × (right ≤ end) × Weighable (now arities) (now nodes) left (right - left) × Weighable (now arities) (now nodes) right (end - right) ⌝ }
     ensures { λ r. ⌜ ((l : Weighable (now (arities .entry)) (now (nodes .entry)) left (right - left)) (m : Weighable (now (arities .entry)) (now (nodes .entry)) right (end - right)) (ws ms : List Weight) → Table-is (now (table .entry)) ws → r ≡ verdict (rule-over (record { weights = ws; marked = ms }) (record { left = l .term; right = m .term })) (not (rule-rises (record { weights = ws; marked = ms }) (record { left = l .term; right = m .term })))) ⌝ }
 {
-    let mut x = [0u64; 17];
+    let mut x = [0u64; SUMS];
     side(arities, table, nodes, left, right - left, &mut x);
     if crate::sums::over(&x) {
         return Verdict::Over;
     }
-    let mut y = [0u64; 17];
+    let mut y = [0u64; SUMS];
     side(arities, table, nodes, right, end - right, &mut y);
     if crate::sums::over(&y) {
         return Verdict::Over;
@@ -69,13 +74,13 @@ pub fn judge_rule(
 // The polynomial of the side of a pair that is kept at `at`, its root being a tuple symbol, in sums that were 0. Where `skips` says
 // that the arguments are within the limit, it is not asked again below a weight 0.
 pub fn marked_side(
-    arities: &[u8; 64],
-    table: &[u16; 1152],
-    nodes: &[u8; 4096],
+    arities: &[u8; MOST_SYMBOLS],
+    table: &[u16; CELLS],
+    nodes: &[u8; MOST_NODES],
     at: usize,
     left: usize,
     skips: bool,
-    sums: &mut [u64; 17],
+    sums: &mut [u64; SUMS],
 )
     requires { ⌜ (length (now nodes) ≤ 4096) × Applied (now arities) (now nodes) at left × (now sums ≡ replicate 17 0) ⌝ }
     ensures { λ _. ⌜ Side-summed (now (arities .entry)) (now (nodes .entry)) (now (table .entry)) at left skips (now (sums .exit)) ⌝ }
@@ -87,13 +92,13 @@ pub fn marked_side(
 
 // The pair whose left side `marked_side` has summed up in x, and whose right side is kept at `at`: holds if its left is greater.
 pub fn judge_call(
-    arities: &[u8; 64],
-    table: &[u16; 1152],
-    nodes: &[u8; 4096],
+    arities: &[u8; MOST_SYMBOLS],
+    table: &[u16; CELLS],
+    nodes: &[u8; MOST_NODES],
     at: usize,
     left: usize,
     skips: bool,
-    x: &[u64; 17],
+    x: &[u64; SUMS],
 ) -> Verdict
     requires { ⌜ (length (now nodes) ≤ 4096) × Applied (now arities) (now nodes) at left × (length (now x) ≡ 17) ⌝ }
     ensures { λ r. ⌜ ((there before : ℕ) (l : Applied (now (arities .entry)) (now (nodes .entry)) there before) (m : Applied (now (arities .entry)) (now (nodes .entry)) at left) (ws ms : List Weight) → Side-summed (now (arities .entry)) (now (nodes .entry)) (now (table .entry)) there before skips (now (x .entry)) → Table-is (now (table .entry)) ws → Marked-is (now (table .entry)) ms → (skips ≡ true → (over ws (arguments (l .side .term)) ≡ false) × (over ws (arguments (m .side .term)) ≡ false)) → r ≡ verdict (call-over (record { weights = ws; marked = ms }) (record { left = l .side .term; right = m .side .term })) (call-falls (record { weights = ws; marked = ms }) (record { left = l .side .term; right = m .side .term }))) ⌝ }
@@ -101,7 +106,7 @@ pub fn judge_call(
     if crate::sums::over(x) {
         return Verdict::Over;
     }
-    let mut y = [0u64; 17];
+    let mut y = [0u64; SUMS];
     marked_side(arities, table, nodes, at, left, skips, &mut y);
     if crate::sums::over(&y) {
         return Verdict::Over;

@@ -1,8 +1,13 @@
 // Linear polynomials: the polynomial of a side, the limit, and their order.
 pub mod judging;
-mod sums;
+pub mod sums;
 pub mod table;
 
+use sums::BEFORE_VARIABLES;
+use sums::SUMS;
+use table::CELLS;
+use terms::MOST_NODES;
+use terms::MOST_SYMBOLS;
 use terms::Symbol;
 ghost use mathlib.Core.Path.{_≡_};
 ghost use mathlib.Core.Bool.{false};
@@ -41,13 +46,13 @@ fn arity(x: u8) -> usize
 // known. Under the factor 0 only the limit is asked, and not even that where `skips` says that it is known. The parameters used
 // most come first: six go in registers.
 pub fn form_at(
-    sums: &mut [u64; 17],
+    sums: &mut [u64; SUMS],
     factor: u64,
     at: usize,
     row: usize,
-    table: &[u16; 1152],
-    nodes: &[u8; 4096],
-    arities: &[u8; 64],
+    table: &[u16; CELLS],
+    nodes: &[u8; MOST_NODES],
+    arities: &[u8; MOST_SYMBOLS],
     left: usize,
     skips: bool,
 ) -> usize
@@ -60,7 +65,7 @@ pub fn form_at(
         if skips {
             return terms::skip(arities, nodes, at);
         }
-        let mut fresh = [0u64; 17];
+        let mut fresh = [0u64; SUMS];
         let end = form_at(&mut fresh, 1, at, row, table, nodes, arities, left, false);
         if sums::over(&fresh) {
             sums::set_over(sums);
@@ -82,8 +87,8 @@ pub fn form_at(
         let k = sums::cap(factor * wide(table[row + i]));
         let c = code as usize;
         // A variable or a constant is weighed in place.
-        if 64 <= c {
-            sums::add(sums, c - 63, k);
+        if MOST_SYMBOLS <= c {
+            sums::add(sums, c - BEFORE_VARIABLES, k);
             next = next + 1;
         } else {
             let first = table::row_of(Symbol(code as u16));
@@ -112,8 +117,8 @@ pub fn form_at(
     let code = nodes[next];
     let k = sums::cap(factor * wide(table[row + n]));
     let c = code as usize;
-    if 64 <= c {
-        sums::add(sums, c - 63, k);
+    if MOST_SYMBOLS <= c {
+        sums::add(sums, c - BEFORE_VARIABLES, k);
         return next + 1;
     }
     let first = table::row_of(Symbol(code as u16));

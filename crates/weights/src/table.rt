@@ -1,5 +1,6 @@
 // The table of weights: nine cells for each symbol, its constant and then its arguments, and after them nine for each tuple symbol.
 // A cell is found by a `Symbol` or by a `Marked` alone, so that neither's weights are taken for the other's.
+use terms::MOST_SYMBOLS;
 use terms::Marked;
 use terms::Symbol;
 ghost use mathlib.Core.Path.{_≡_};
@@ -10,7 +11,10 @@ ghost use Rattle.weights.specs.Table.{row, marked-row};
 // A symbol has at most 8 arguments.
 const ROW: usize = 9;
 
-const MARKED: usize = 64 * ROW;
+// Where the cells of the tuple symbols begin, and how many cells there are.
+const MARKED: usize = MOST_SYMBOLS * ROW;
+
+pub const CELLS: usize = 2 * MOST_SYMBOLS * ROW;
 
 // Where the cells of a symbol begin.
 pub fn row_of(f: Symbol) -> usize
@@ -27,7 +31,7 @@ pub fn marked_row_of(f: Marked) -> usize
 }
 
 // Stores a weight of a symbol: i is 0 for its constant, or the number of an argument.
-pub fn put(table: &mut [u16; 1152], f: Symbol, i: usize, value: u16)
+pub fn put(table: &mut [u16; CELLS], f: Symbol, i: usize, value: u16)
     requires { ⌜ (f .0 < 64) × (i ≤ 8) ⌝ }
     ensures { λ _. ⌜ now (table .exit) ≡ set (now (table .entry)) (row (f .0) + i) value ⌝ }
 {
@@ -35,7 +39,7 @@ pub fn put(table: &mut [u16; 1152], f: Symbol, i: usize, value: u16)
 }
 
 // The same of a tuple symbol.
-pub fn put_marked(table: &mut [u16; 1152], f: Marked, i: usize, value: u16)
+pub fn put_marked(table: &mut [u16; CELLS], f: Marked, i: usize, value: u16)
     requires { ⌜ (f .0 < 64) × (i ≤ 8) ⌝ }
     ensures { λ _. ⌜ now (table .exit) ≡ set (now (table .entry)) (marked-row (f .0) + i) value ⌝ }
 {
