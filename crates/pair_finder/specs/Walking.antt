@@ -100,6 +100,13 @@ pub record Kept-pack (rules : ℕ) (arities starts nodes flags : List ℕ) : Typ
   pub flags-long : length flags ≡ 64
   pub nodes-long : length nodes ≤ 4096
 
+-- a system is kept in them
+pub record System-kept (rules : ℕ) (arities starts nodes flags : List ℕ) : Type 0 where
+  pub arrays : Kept-pack rules arities starts nodes flags
+  pub system : System
+  pub symbols : ℕ
+  pub stored : Stored system symbols rules arities starts nodes flags
+
 -- a pair of the system kept there, its right side at `right`
 pub record Pair-kept (p : System) (q : Pair) (rules : ℕ) (arities starts nodes flags : List ℕ) (right : ℕ) : Type 0 where
   pub symbols : ℕ
