@@ -4,10 +4,8 @@ use mathlib.Core.Path.{_≡_}
 use mathlib.Core.Bool.{true, false}
 use mathlib.Core.Logic.{_⊎_, inl, inr, ⊎-elim}
 use mathlib.Core.List.{List, [], _∷_, _++_, List·Memᴰ, List·Memᴰ·not-nil, List·Memᴰ·append-cases, Memᴰ·append-left, Memᴰ·append-right, Memᴰ·map}
-use Prim.Native.Nat.{ℕ, _<_}
 use native.Mathlib.Omega.{arith}
-use lib.ListN.{length}
-use Rattle.rewriting.specs.Terms.{System, rule, Substitution}
+use Rattle.rewriting.specs.Terms.{System}
 use Rattle.rewriting.specs.Steps.{Strategy}
 use Rattle.rewriting.specs.Termination.{SN, sn}
 use Rattle.rewriting.specs.Pairs.{Pair, is-pair}
@@ -20,7 +18,8 @@ use Rattle.pairs.specs.Listing.{pairs}
 use Rattle.pairs.proofs.Listed.{counted-member}
 use Rattle.polynomials.specs.Polynomials.{Weighting}
 use Rattle.polynomials.proofs.Judged.{weighed}
-use Rattle.polynomials.proofs.Weighed.{component-terminates}
+use Rattle.polynomials.proofs.Falls.{Linked}
+use Rattle.polynomials.proofs.Weighed.{by-rules, component-terminates}
 use Rattle.certificates.specs.Components.{Component}
 use Rattle.judging.specs.Judge.{Judge, all-pairs, each-once, arcs-among, back-arc, call, calls, weighed-refusal, component-refusal, judged}
 use Rattle.judging.specs.Shown.{Each-once}
@@ -28,11 +27,12 @@ use Rattle.judging.proofs.Once.{once-means}
 use Rattle.judging.proofs.Tests.{each-once-means, no-arc}
 use Rattle.judging.proofs.Components.{none-refused}
 
--- what a judge owes: its arcs miss no next of a chain, and the rules that it judges in a component are all that steps go by
+-- what a judge owes: its arcs miss no next of a chain, and the rules that it judges in a component are all that the steps from
+-- a link of the component to the next go by
 pub record Sound (p : System) (m : Strategy) (j : Judge) : Type 0 where
   pub arcs-enough : (x y : Link) → Valid p m x → Next p m x y → j .arcs (x .pair) (y .pair) ≡ true
   pub rules-enough :
-      (c : Component) (i : ℕ) (s : Substitution) → m i s → i < length (p .rules) → List·Memᴰ (rule p i) (j .rules c)
+      (c : Component) (x y : Link) → Valid p m x → List·Memᴰ (x .pair) (c .pairs) → Next p m x y → Linked p (by-rules p (j .rules c)) x y
 
 module _ (p : System) (m : Strategy) (j : Judge) (good : Good p) (sound : Sound p m j) where
   -- a link whose pair is among these
@@ -50,24 +50,24 @@ module _ (p : System) (m : Strategy) (j : Judge) (good : Good p) (sound : Sound 
   -- INSIDE A COMPONENT
 
   abbrev Next-in : Component → Link → Link → Type 0
-  Next-in c x y = Next p m x y × List·Memᴰ (y .pair) (c .pairs)
+  Next-in c x y = Among (c .pairs) x × Next p m x y × List·Memᴰ (y .pair) (c .pairs)
 
   -- a chain that stays in it ends: without a weighting at once, else by the weights
   inside-ends : (c : Component) (ws : List Weighting) → weighed-refusal p j c ws ≡ 0 → (x : Link) → Among (c .pairs) x → SN (Next-in c) x
   unfolding weighed-refusal call calls
   inside-ends c [] h x a =
       let none = cond-second (arcs-among j (c .pairs) (c .pairs)) 10 0 (λ e. omega arith) h .0 in
-      sn-none x (λ y n. no-next none a (n .0) (n .1))
+      sn-none x (λ y n. no-next none a (n .1) (n .2))
   inside-ends c (w ∷ ws) h x a =
-      sn-by (λ y z n. (n .0, Memᴰ·map (call p) (n .1)))
-      (component-terminates p m good (j .rules c) (sound .rules-enough c) (weighed _ _ _ .0 h) x (a .0) (Memᴰ·map (call p) (a .1)))
+      sn-by (λ y z n. (n .1, sound .rules-enough c y z (n .0 .0) (n .0 .1) (n .1), Memᴰ·map (call p) (n .2)))
+      (component-terminates p m good (j .rules c) (weighed _ _ _ .0 h) x (a .0) (Memᴰ·map (call p) (a .1)))
 
   -- so does one that leaves it only for where chains end
   leaving-ends : (c : Component) →
       ((x y : Link) → Among (c .pairs) x → Next p m x y → List·Memᴰ (y .pair) (c .pairs) ⊎ SN (Next p m) y) →
       {x : Link} → SN (Next-in c) x → Among (c .pairs) x → SN (Next p m) x
   leaving-ends c leaves (sn x h) a =
-      sn x (λ y n. ⊎-elim (λ k. leaving-ends c leaves (h y (n, k)) (n .valid, k)) (λ ends. ends) (leaves x y a n))
+      sn x (λ y n. ⊎-elim (λ k. leaving-ends c leaves (h y (a, n, k)) (n .valid, k)) (λ ends. ends) (leaves x y a n))
 
   -- THROUGH THE COMPONENTS
 

@@ -3,8 +3,8 @@ use mathlib.Core.Path.{_≡_}
 use mathlib.Core.Bool.{true}
 use Prim.Native.Nat.{ℕ, _+_, _≤_, _<_}
 use native.Mathlib.Nat.{le-refl, le-trans, lt-of-le-of-lt, add-le-add}
-use Rattle.rewriting.specs.Terms.{Tree, app, System}
-use Rattle.rewriting.specs.Steps.{Strategy}
+use Rattle.rewriting.specs.Terms.{Tree, app, System, substituted}
+use Rattle.rewriting.specs.Steps.{Strategy, Step, Steps}
 use Rattle.rewriting.specs.Pairs.{pair-left, pair-right, same-root, arguments}
 use Rattle.rewriting.specs.Chains.{Link, Valid, Next}
 use Rattle.rewriting.specs.Systems.{Good}
@@ -38,16 +38,22 @@ marked-monotone w a b t u h k =
     rw (marked-applied w a f t (same .1), marked-applied w b f u (same .2))
     (add-le-add (le-refl (weight (w .marked) f 0)) (weighed-monotone (w .marked) f 1 k))
 
+-- x's right derives to y's left by steps of the strategy n
+abbrev pub Linked : System → Strategy → Link → Link → Type 0
+Linked p n x y =
+    Steps (Step p n) (substituted (x .by) (arguments (pair-right p (x .pair)))) (substituted (y .by) (arguments (pair-left p (y .pair))))
+
+-- a chain under the strategy m, whose steps between two links are steps of n too, which raise no value
 module _
-    (p : System) (m : Strategy) (w : Weighting) (good : Good p) (kept : Kept p m (w .weights)) {x y : Link} (valid : Valid p m x)
-    (next : Next p m x y) where
+    (p : System) (m n : Strategy) (w : Weighting) (good : Good p) (kept : Kept p n (w .weights)) {x y : Link} (valid : Valid p m x)
+    (next : Next p m x y) (linked : Linked p n x y) where
   -- from a pair's right to the left of the next
   right-to-left : marked-value w (link-valuation w y) (pair-left p (y .pair)) ≤ marked-value w (link-valuation w x) (pair-right p (x .pair))
   right-to-left =
       let ws = w .weights in
       let left = substituted-values p ws (λ v. 0) (y .by) (next .valid .over) (arguments (pair-left p (y .pair))) in
       let right = substituted-values p ws (λ v. 0) (x .by) (valid .over) (arguments (pair-right p (x .pair))) in
-      let derived = rw (left, right) at (steps-keep-values p m ws good kept (λ v. 0) (next .derives)) in
+      let derived = rw (left, right) at (steps-keep-values p n ws good kept (λ v. 0) linked) in
       marked-monotone w _ _ (pair-right p (x .pair)) (pair-left p (y .pair)) (next .roots) derived
 
   -- the left of x's pair is at least its right

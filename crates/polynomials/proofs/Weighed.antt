@@ -3,9 +3,8 @@
 use mathlib.Core.Path.{_≡_}
 use mathlib.Core.Bool.{Bool, true, false}
 use mathlib.Core.List.{List, List·Memᴰ, List·Memᴰ·not-nil}
-use Prim.Native.Nat.{ℕ, _≤_, _<_}
-use lib.ListN.{length}
-use Rattle.rewriting.specs.Terms.{Rule, System, rule, Substitution}
+use Prim.Native.Nat.{_≤_, _<_}
+use Rattle.rewriting.specs.Terms.{Rule, System, rule}
 use Rattle.rewriting.specs.Steps.{Strategy}
 use Rattle.rewriting.specs.Termination.{SN}
 use Rattle.rewriting.specs.Pairs.{pair-left, pair-right}
@@ -19,12 +18,16 @@ use Rattle.polynomials.proofs.Lists.{any-false-mem, without-keeps}
 use Rattle.polynomials.proofs.Small.{call, left-small, right-small}
 use Rattle.polynomials.proofs.Compared.{rule-kept, call-kept, call-less}
 use Rattle.polynomials.proofs.Steps.{Kept}
-use Rattle.polynomials.proofs.Falls.{link-value, next-value, next-falls}
+use Rattle.polynomials.proofs.Falls.{Linked, link-value, next-value, next-falls}
 use Rattle.polynomials.proofs.Descent.{Descending, descent}
 
--- the next link, if its call is among those
-abbrev pub Next-among : System → Strategy → List Call → Link → Link → Type 0
-Next-among p m cs x y = Next p m x y × List·Memᴰ (call p (y .pair)) cs
+-- every redex of these rules
+abbrev pub by-rules : System → List Rule → Strategy
+by-rules p rs i s = List·Memᴰ (rule p i) rs
+
+-- the next link, by steps of these rules, if its call is among those
+abbrev pub Next-among : System → Strategy → List Rule → List Call → Link → Link → Type 0
+Next-among p m rs cs x y = Next p m x y × Linked p (by-rules p rs) x y × List·Memᴰ (call p (y .pair)) cs
 
 -- a link that itself is among them
 abbrev Inside : System → Strategy → List Call → Link → Type 0
@@ -34,28 +37,26 @@ Inside p m cs x = Valid p m x × List·Memᴰ (call p (x .pair)) cs
 abbrev leaves : System → Weighting → Link → Bool
 leaves p w x = call-falls w (call p (x .pair))
 
-module _
-    (p : System) (m : Strategy) (good : Good p) (rs : List Rule)
-    (judged : (i : ℕ) (s : Substitution) → m i s → i < length (p .rules) → List·Memᴰ (rule p i) rs) where
-  -- no rule of a step raises a value, if none that was judged rises
-  rules-kept : (w : Weighting) → any (rule-rises w) rs ≡ false → Kept p m (w .weights)
+module _ (p : System) (m : Strategy) (good : Good p) (rs : List Rule) where
+  -- steps of rules that do not rise raise no value
+  rules-kept : (w : Weighting) → any (rule-rises w) rs ≡ false → Kept p (by-rules p rs) (w .weights)
   unfolding Kept
-  rules-kept w h i s allowed k =
-      rule-kept w (rule p i) (left-small p good i k) (right-small p good i k) .0 (any-false-mem (rule-rises w) (judged i s allowed k) h)
+  rules-kept w h i s among k =
+      rule-kept w (rule p i) (left-small p good i k) (right-small p good i k) .0 (any-false-mem (rule-rises w) among h)
 
   -- under one weighting the value of a link descends, but for links between calls that do not leave
   descending :
       (w : Weighting) (cs : List Call) → any (rule-rises w) rs ≡ false → any (call-rises w) cs ≡ false →
-      Descending (Next-among p m cs) (Next-among p m (without (call-falls w) cs)) (Inside p m cs) (link-value p w) (leaves p w)
+      Descending (Next-among p m rs cs) (Next-among p m rs (without (call-falls w) cs)) (Inside p m cs) (link-value p w) (leaves p w)
   descending w cs rules calls =
       record {
-        stays = λ x y c r. (r .0 .valid, r .1);
-        never-rises = λ x y c r. next-value p m w good kept (c .0) (r .0) (link-kept x c);
-        falls-behind = λ x y c e r. next-falls p m w good kept (c .0) (r .0) (link-less x c e);
-        otherwise = λ x y c r e. (r .0, without-keeps (call-falls w) (r .1) e);
+        stays = λ x y c r. (r .0 .valid, r .2);
+        never-rises = λ x y c r. next-value p m (by-rules p rs) w good kept (c .0) (r .0) (r .1) (link-kept x c);
+        falls-behind = λ x y c e r. next-falls p m (by-rules p rs) w good kept (c .0) (r .0) (r .1) (link-less x c e);
+        otherwise = λ x y c r e. (r .0, r .1, without-keeps (call-falls w) (r .2) e);
       }
     where
-      kept : Kept p m (w .weights)
+      kept : Kept p (by-rules p rs) (w .weights)
       kept = rules-kept w rules
 
       link-kept :
@@ -73,7 +74,7 @@ module _
   -- a chain that stays among calls that are weighed ends
   pub component-terminates :
       {ws : List Weighting} {cs : List Call} → Weighed rs ws cs → (x : Link) → Valid p m x → List·Memᴰ (call p (x .pair)) cs →
-      SN (Next-among p m cs) x
+      SN (Next-among p m rs cs) x
   component-terminates all-left x v i = absurd (List·Memᴰ·not-nil i)
   component-terminates (one-more w ws cs over-rules over-calls rules calls others) x v i =
       descent (descending w cs rules calls)
