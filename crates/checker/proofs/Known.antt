@@ -19,7 +19,8 @@ use Rattle.weights.specs.Table.{Table-is}
 use Rattle.weights.specs.Working.{verdict}
 use Rattle.polynomials.proofs.Judged.{weighed}
 use Rattle.certificates.specs.Components.{Component}
-use Rattle.judging.specs.Judge.{calls, plain, weighed-refusal, component-refusal}
+use Rattle.judging.specs.Judges.{plain}
+use Rattle.judging.specs.Judge.{calls, weighed-refusal, component-refusal}
 use Rattle.checker.specs.Working.{Component-at, Component-fits, Component-judged, Weights-at, chosen, record-count}
 use Rattle.checker.specs.Working.{rules-verdict, calls-verdict, Weights-held, Rules-known, last-weights, Known-after}
 use Rattle.checker.proofs.Positions.{header-here, weights-here, marked-here, records-counted}

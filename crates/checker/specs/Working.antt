@@ -26,7 +26,8 @@ use Rattle.weights.specs.Working.{verdict}
 use Rattle.certificates.specs.Components.{Component, no-component}
 use Rattle.certificates.specs.Encoding.{weight-records, component-records}
 use Rattle.partition.specs.Working.{All-pairs}
-use Rattle.judging.specs.Judge.{plain, calls, component-refusal}
+use Rattle.judging.specs.Judges.{plain}
+use Rattle.judging.specs.Judge.{calls, component-refusal}
 
 -- what judging answers: the number, 0 for none
 unfoldable pub Judged-as : (number : ℕ) → Answer → Type 0

@@ -18,7 +18,8 @@ use Rattle.certificates.specs.Components.{Component}
 use Rattle.certificates.specs.CertificateReading as certificates
 use Rattle.certificates.specs.CertificateReading.{read-certificate}
 use Rattle.certificates.proofs.Refusals as certificate-refusals
-use Rattle.judging.specs.Judge.{judged, plain}
+use Rattle.judging.specs.Judges.{plain}
+use Rattle.judging.specs.Judge.{judged}
 use Rattle.judging.specs.Check.{check, check-pack, check-read}
 use Rattle.judging.proofs.Shows.{judged-range, judged-not-read}
 

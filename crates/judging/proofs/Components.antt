@@ -1,5 +1,5 @@
--- 10 to 13 exactly: a component's number says which of document 01's demands it fails first, and the components' number
--- which component is the first to fail.
+-- 10 to 13 exactly, by any judge: a component's number says which of document 01's demands it fails first, and the
+-- components' number which component is the first to fail.
 use mathlib.Core.Path.{_≡_, refl, sym, _∙_}
 use mathlib.Core.Bool.{true, cond, or-false}
 use mathlib.Core.Logic.{_↔_, _⊎_, inl, inr, ⊎-elim}
@@ -9,23 +9,23 @@ use native.Mathlib.Omega.{arith}
 use lib.Dec.{eqb}
 use lib.ListN.{length, getD, length-map}
 use borrow.Author.Tests.{eqb-true, eqb-false, ne-eqb}
-use Rattle.rewriting.specs.Terms.{System}
+use Rattle.rewriting.specs.Terms.{System, Rule}
 use Rattle.rewriting.specs.Pairs.{Pair, is-pair}
 use Rattle.rewriting.specs.Systems.{Good}
 use Rattle.rewriting.proofs.Basics.{by-test, not-both, cond-true, cond-false, cond-first, cond-second, cond-cases}
 use Rattle.rewriting.proofs.Basics.{Each, each-nil, each-cons, each-by, each-at}
 use Rattle.pairs.specs.Listing.{a-pair}
-use Rattle.pairs.specs.Arcs.{arc}
 use Rattle.pairs.proofs.Listed.{either}
 use Rattle.polynomials.specs.Polynomials.{Weighting}
 use Rattle.polynomials.specs.Values.{Valuation, marked-value}
 use Rattle.polynomials.specs.Limit.{Side-within}
 use Rattle.polynomials.specs.Judging.{Call, no-call, any, Rules-within, Rules-kept}
-use Rattle.polynomials.proofs.Small.{Small, good-small}
+use Rattle.polynomials.proofs.Small.{Small, Small-rule, good-small}
 use Rattle.polynomials.proofs.Judged.{Judging-number, judging-numbers, Exactly, Calls-within, Calls-fall, one-weighting}
 use Rattle.certificates.specs.Components.{Component, no-component}
 use Rattle.certificates.specs.Encoding.{Good-certificate}
-use Rattle.judging.specs.Judge.{Judge, plain, arcs-among, call, calls, weighed-refusal, component-refusal, components-refusal}
+use Rattle.judging.specs.Judges.{Judge}
+use Rattle.judging.specs.Judge.{arcs-among, call, calls, weighed-refusal, component-refusal, components-refusal}
 use Rattle.judging.specs.Shown.{nth-pair, nth, No-self-arc, All-within, Pairs-fall, Under, Component-shows, First-failure}
 use Rattle.judging.specs.Shown.{Fails, self-arc, over-limit, rule-rises, pair-stays}
 
@@ -42,13 +42,17 @@ pub good-fit : (p : System) (cs : List Component) → Good-certificate p cs → 
 unfolding Good-certificate nth nth-pair
 good-fit p cs good i h = record { few = good i h .weightings-few; alone = good i h .alone; are-pairs = good i h .are-pairs }
 
--- ONE COMPONENT, under document 01's judge
+-- what it asks of a judge: its rules are terms, and all their variables have a coefficient
+abbrev pub Small-rules : Judge → Type 0
+Small-rules j = (c : Component) → Each Small-rule (j .rules c)
 
-pub only-arc : (p : System) (d : Pair) (qs : List Pair) → length qs ≡ 1 → arcs-among (plain p) qs qs ≡ arc p (getD qs 0 d) (getD qs 0 d)
-unfolding arcs-among any plain
-only-arc p d [] h = absurd (omega arith)
-only-arc p d (q ∷ []) h = or-false _ ∙ or-false _
-only-arc p d (q ∷ r ∷ qs) h = absurd (omega arith)
+-- ONE COMPONENT
+
+pub only-arc : (j : Judge) (d : Pair) (qs : List Pair) → length qs ≡ 1 → arcs-among j qs qs ≡ j .arcs (getD qs 0 d) (getD qs 0 d)
+unfolding arcs-among any
+only-arc j d [] h = absurd (omega arith)
+only-arc j d (q ∷ []) h = or-false _ ∙ or-false _
+only-arc j d (q ∷ r ∷ qs) h = absurd (omega arith)
 
 map-at : {A B : Type 0} (f : A → B) (xs : List A) (k : ℕ) (d : A) (e : B) → k < length xs → getD (map f xs) k e ≡ f (getD xs k d)
 map-at f [] k d e l = absurd (omega arith)
@@ -66,9 +70,9 @@ module _ (p : System) (w : Weighting) (qs : List Pair) where
   unfolding calls
   at-call P k l = let e = map-at (call p) qs k (a-pair 0 0) no-call l in (λ h. rw e at h, λ h. rw e h)
 
-  calls-within : (Rules-within (p .rules) w × Calls-within w (calls p qs)) ↔ All-within p (p .rules) w qs
+  calls-within : (rs : List Rule) → (Rules-within rs w × Calls-within w (calls p qs)) ↔ All-within p rs w qs
   unfolding All-within call
-  calls-within = (
+  calls-within rs = (
     λ h. (
       h .0,
       record {
@@ -96,26 +100,27 @@ module _ (p : System) (w : Weighting) (qs : List Pair) where
     λ h k l. let l = rw calls-long at l in at-call Falls k l .1 (h k l),
   )
 
-module _ (p : System) (good : Good p) (c : Component) (fit : Fit p c) where
-  small : Small (p .rules) (calls p (c .pairs))
+module _ (p : System) (j : Judge) (good : Good p) (small-rules : Small-rules j) (c : Component) (fit : Fit p c) where
+  small : Small (j .rules c) (calls p (c .pairs))
   unfolding call calls nth-pair
-  small = good-small p good (c .pairs) (each-by (a-pair 0 0) (c .pairs) (fit .are-pairs))
+  small = good-small p good (small-rules c) (c .pairs) (each-by (a-pair 0 0) (c .pairs) (fit .are-pairs))
 
   -- with one weighting its number is that of the weights, without any the one arc decides
   weighting-exactly : (w : Weighting) →
-      Exactly (weighed-refusal p (plain p) c (w ∷ [])) (All-within p (p .rules) w (c .pairs)) (Rules-kept (p .rules) w) (Pairs-fall p w (c .pairs))
-  unfolding weighed-refusal plain
-  weighting-exactly w = one-weighting (p .rules) w (calls p (c .pairs)) small (calls-within p w (c .pairs)) (calls-fall p w (c .pairs))
+      Exactly (weighed-refusal p j c (w ∷ [])) (All-within p (j .rules c) w (c .pairs)) (Rules-kept (j .rules c) w) (Pairs-fall p w (c .pairs))
+  unfolding weighed-refusal
+  weighting-exactly w =
+      one-weighting (j .rules c) w (calls p (c .pairs)) small (calls-within p w (c .pairs) (j .rules c)) (calls-fall p w (c .pairs))
 
-  self-arc-number : length (c .pairs) ≡ 1 → weighed-refusal p (plain p) c [] ≡ cond (arc p (nth-pair c 0) (nth-pair c 0)) 10 0
+  self-arc-number : length (c .pairs) ≡ 1 → weighed-refusal p j c [] ≡ cond (j .arcs (nth-pair c 0) (nth-pair c 0)) 10 0
   unfolding weighed-refusal nth-pair
-  self-arc-number one = rw (only-arc p (a-pair 0 0) (c .pairs) one)
+  self-arc-number one = rw (only-arc j (a-pair 0 0) (c .pairs) one)
 
   -- what a fit component's weightings are like
   abbrev Few : List Weighting → Type 0
   Few ws = (length ws ≤ 1) × (length ws ≡ 0 → length (c .pairs) ≡ 1)
 
-  under-shows : (ws : List Weighting) → Few ws → (weighed-refusal p (plain p) c ws ≡ 0) ↔ Under p c ws
+  under-shows : (ws : List Weighting) → Few ws → (weighed-refusal p j c ws ≡ 0) ↔ Under p j c ws
   unfolding Under No-self-arc
   under-shows [] few =
       rw (self-arc-number (few .1 refl)) (λ h. cond-second _ 10 0 (λ e. omega arith) h .0, λ h. cond-false 10 0 h)
@@ -126,7 +131,7 @@ module _ (p : System) (good : Good p) (c : Component) (fit : Fit p c) where
       )
   under-shows (w ∷ v ∷ ws) few = absurd (omega arith)
 
-  weighting-fails : (w : Weighting) (n : ℕ) → 10 ≤ n → Judging-number n → weighed-refusal p (plain p) c (w ∷ []) ≡ n → Fails p c n (w ∷ [])
+  weighting-fails : (w : Weighting) (n : ℕ) → 10 ≤ n → Judging-number n → weighed-refusal p j c (w ∷ []) ≡ n → Fails p j c n (w ∷ [])
   weighting-fails w n b (inl z) h = absurd (omega arith)
   weighting-fails w n b (inr (inl z)) h = rw z (over-limit w (weighting-exactly w .refuses-11 .0 (h ∙ z)))
   weighting-fails w n b (inr (inr (inl z))) h =
@@ -134,18 +139,18 @@ module _ (p : System) (good : Good p) (c : Component) (fit : Fit p c) where
   weighting-fails w n b (inr (inr (inr z))) h =
       let f = weighting-exactly w .refuses-13 .0 (h ∙ z) in rw z (pair-stays w (f .0) (f .1) (f .2))
 
-  under-fails : (n : ℕ) → 10 ≤ n → (ws : List Weighting) → Few ws → weighed-refusal p (plain p) c ws ≡ n → Fails p c n ws
-  unfolding No-self-arc weighed-refusal plain
+  under-fails : (n : ℕ) → 10 ≤ n → (ws : List Weighting) → Few ws → weighed-refusal p j c ws ≡ n → Fails p j c n ws
+  unfolding No-self-arc weighed-refusal
   under-fails n b [] few h =
       let k = cond-first _ 10 0 (λ e. omega arith) (sym (self-arc-number (few .1 refl)) ∙ h) in
       rw (← (k .1)) (self-arc (λ none. not-both _ (k .0) none))
-  under-fails n b (w ∷ []) few h = weighting-fails w n b (rw h at (judging-numbers (p .rules) (w ∷ []) (calls p (c .pairs)))) h
+  under-fails n b (w ∷ []) few h = weighting-fails w n b (rw h at (judging-numbers (j .rules c) (w ∷ []) (calls p (c .pairs)))) h
   under-fails n b (w ∷ v ∷ ws) few h = absurd (omega arith)
 
-  fails-under : {n : ℕ} {ws : List Weighting} → Few ws → Fails p c n ws → weighed-refusal p (plain p) c ws ≡ n
+  fails-under : {n : ℕ} {ws : List Weighting} → Few ws → Fails p j c n ws → weighed-refusal p j c ws ≡ n
   unfolding No-self-arc
   fails-under few (self-arc f) =
-      self-arc-number (few .1 refl) ∙ by-test (arc p (nth-pair c 0) (nth-pair c 0)) (cond-true 10 0) (λ none. absurd (f none))
+      self-arc-number (few .1 refl) ∙ by-test (j .arcs (nth-pair c 0) (nth-pair c 0)) (cond-true 10 0) (λ none. absurd (f none))
   fails-under few (over-limit w f) = weighting-exactly w .refuses-11 .1 f
   fails-under few (rule-rises w a f) = weighting-exactly w .refuses-12 .1 (a, f)
   fails-under few (pair-stays w a k f) = weighting-exactly w .refuses-13 .1 (a, k, f)
@@ -154,16 +159,16 @@ module _ (p : System) (good : Good p) (c : Component) (fit : Fit p c) where
   few = (fit .few, fit .alone)
 
   -- its number is 0 exactly if it shows what it must
-  component-shows : (component-refusal p (plain p) c ≡ 0) ↔ Component-shows p c
+  component-shows : (component-refusal p j c ≡ 0) ↔ Component-shows p j c
   unfolding component-refusal Component-shows
   component-shows = under-shows (c .weightings) few
 
   -- else its number is that of its first failure
-  component-fails : (n : ℕ) → 10 ≤ n → (component-refusal p (plain p) c ≡ n) ↔ Fails p c n (c .weightings)
+  component-fails : (n : ℕ) → 10 ≤ n → (component-refusal p j c ≡ n) ↔ Fails p j c n (c .weightings)
   unfolding component-refusal
   component-fails n b = (under-fails n b (c .weightings) few, fails-under few)
 
--- ALL COMPONENTS, under any judge
+-- ALL COMPONENTS
 
 -- component i is the first whose number is not 0, and its number is n
 record First (p : System) (j : Judge) (cs : List Component) (n : ℕ) : Type 0 where
@@ -218,38 +223,37 @@ module _ (p : System) (j : Judge) where
   refused-first (c ∷ cs) n (suc i) b l lower here =
       rw (lower 0 (omega arith)) (refused-first cs n i b (omega arith) (λ k d. lower (suc k) (omega arith)) here)
 
--- under document 01's judge
-module _ (p : System) (good : Good p) (cs : List Component) (fit : All-fit p cs) where
+module _ (p : System) (j : Judge) (good : Good p) (small-rules : Small-rules j) (cs : List Component) (fit : All-fit p cs) where
   -- their number is 0 exactly if each shows what it must
-  pub components-show : (components-refusal p (plain p) cs ≡ 0) ↔ ((i : ℕ) → i < length cs → Component-shows p (nth cs i))
+  pub components-show : (components-refusal p j cs ≡ 0) ↔ ((i : ℕ) → i < length cs → Component-shows p j (nth cs i))
   unfolding nth
   components-show = (
-    λ h i b. component-shows p good _ (fit i b) .0 (each-at no-component (none-refused p (plain p) cs h) i b),
-    λ show. refused-none p (plain p) (each-by no-component cs (λ i b. component-shows p good _ (fit i b) .1 (show i b))),
+    λ h i b. component-shows p j good small-rules _ (fit i b) .0 (each-at no-component (none-refused p j cs h) i b),
+    λ show. refused-none p j (each-by no-component cs (λ i b. component-shows p j good small-rules _ (fit i b) .1 (show i b))),
   )
 
   -- else it is that of the first failure
-  pub components-fail : (n : ℕ) → 10 ≤ n → (components-refusal p (plain p) cs ≡ n) ↔ First-failure p cs n
+  pub components-fail : (n : ℕ) → 10 ≤ n → (components-refusal p j cs ≡ n) ↔ First-failure p j cs n
   unfolding nth
   components-fail n b = (to, from)
     where
-      to : components-refusal p (plain p) cs ≡ n → First-failure p cs n
+      to : components-refusal p j cs ≡ n → First-failure p j cs n
       to h =
-          let f = first-refused p (plain p) cs n b h in
+          let f = first-refused p j cs n b h in
           record {
             i = f .i;
             in-range = f .in-range;
-            lower-show = λ k l. component-shows p good _ (fit k (omega (arith, f .in-range))) .0 (f .lower k l);
-            fails = component-fails p good _ (fit (f .i) (f .in-range)) n b .0 (f .here);
+            lower-show = λ k l. component-shows p j good small-rules _ (fit k (omega (arith, f .in-range))) .0 (f .lower k l);
+            fails = component-fails p j good small-rules _ (fit (f .i) (f .in-range)) n b .0 (f .here);
           }
 
-      from : First-failure p cs n → components-refusal p (plain p) cs ≡ n
+      from : First-failure p j cs n → components-refusal p j cs ≡ n
       from f =
-          refused-first p (plain p) cs n (f .i) b (f .in-range)
-          (λ k l. component-shows p good _ (fit k (omega (arith, f .in-range))) .1 (f .lower-show k l))
-          (component-fails p good _ (fit (f .i) (f .in-range)) n b .1 (f .fails))
+          refused-first p j cs n (f .i) b (f .in-range)
+          (λ k l. component-shows p j good small-rules _ (fit k (omega (arith, f .in-range))) .1 (f .lower-show k l))
+          (component-fails p j good small-rules _ (fit (f .i) (f .in-range)) n b .1 (f .fails))
 
--- THE NUMBERS that are given, by any judge
+-- THE NUMBERS that are given
 abbrev pub Component-number : ℕ → Type 0
 Component-number n = (n ≡ 0) ⊎ ((10 ≤ n) × (n ≤ 13))
 

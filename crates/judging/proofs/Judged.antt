@@ -21,7 +21,8 @@ use Rattle.polynomials.proofs.Judged.{weighed}
 use Rattle.polynomials.proofs.Falls.{Linked}
 use Rattle.polynomials.proofs.Weighed.{by-rules, component-terminates}
 use Rattle.certificates.specs.Components.{Component}
-use Rattle.judging.specs.Judge.{Judge, all-pairs, each-once, arcs-among, back-arc, call, calls, weighed-refusal, component-refusal, judged}
+use Rattle.judging.specs.Judges.{Judge}
+use Rattle.judging.specs.Judge.{all-pairs, each-once, arcs-among, back-arc, call, calls, weighed-refusal, component-refusal, judged}
 use Rattle.judging.specs.Shown.{Each-once}
 use Rattle.judging.proofs.Once.{once-means}
 use Rattle.judging.proofs.Tests.{each-once-means, no-arc}

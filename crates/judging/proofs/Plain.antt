@@ -1,4 +1,4 @@
--- Document 01's judge is sound under every strategy: so what the check accepts terminates.
+-- Document 01's judge is sound under every strategy: so what the check accepts terminates. And its rules are small.
 use mathlib.Core.Path.{_≡_}
 use mathlib.Core.List.{List}
 use Rattle.rewriting.specs.Terms.{Tree, System, no-rule, rule}
@@ -8,9 +8,12 @@ use Rattle.rewriting.specs.Chains.{Terminating, Chains-terminating}
 use Rattle.rewriting.proofs.Relations.{steps-by, in-context-map}
 use Rattle.pairs.proofs.ArcsEnough.{arcs-enough}
 use Rattle.polynomials.proofs.Lists.{mem-at}
+use Rattle.polynomials.proofs.Small.{rules-small}
 use Rattle.polynomials.proofs.Weighed.{by-rules}
 use Rattle.certificates.specs.Components.{Component}
-use Rattle.judging.specs.Judge.{plain, judged}
+use Rattle.judging.specs.Judges.{plain}
+use Rattle.judging.specs.Judge.{judged}
+use Rattle.judging.proofs.Components.{Small-rules}
 use Rattle.judging.proofs.Judged.{Sound, judged-terminates}
 
 -- every step goes by one of the system's rules
@@ -38,3 +41,7 @@ plain-sound p m good =
 pub judged-plain-terminates :
     (p : System) (m : Strategy) → Good p → (cs : List Component) → judged p (plain p) cs ≡ 0 → Chains-terminating p m × Terminating p m
 judged-plain-terminates p m good cs h = judged-terminates p m (plain p) good (plain-sound p m good) cs h
+
+pub plain-small : (p : System) → Good p → Small-rules (plain p)
+unfolding plain
+plain-small p good c = rules-small p good

@@ -1,5 +1,5 @@
--- The judging gives exactly the numbers of document 01: 0 if the certificate shows all it must, else the number of the
--- first demand that it fails.
+-- The judging gives exactly the numbers of document 01, by any judge: 0 if the certificate shows all it must, else the number
+-- of the first demand that it fails.
 use mathlib.Core.Path.{_≡_, refl, sym}
 use mathlib.Core.Bool.{Bool, true, false, cond, true≢false, false≢true}
 use mathlib.Core.Logic.{_↔_, _⊎_, inl, inr, ⊎-elim}
@@ -11,12 +11,13 @@ use Rattle.rewriting.specs.Systems.{Good}
 use Rattle.pairs.specs.Listing.{pairs}
 use Rattle.pairs.proofs.Listed.{either}
 use Rattle.certificates.specs.Components.{Component}
-use Rattle.judging.specs.Judge.{Judge, plain, all-pairs, each-once, back-arc, components-refusal, judged}
+use Rattle.judging.specs.Judges.{Judge}
+use Rattle.judging.specs.Judge.{all-pairs, each-once, back-arc, components-refusal, judged}
 use Rattle.judging.specs.Shown.{Each-once, No-back-arc, First-failure, Shows}
 use Rattle.judging.proofs.Tests.{each-once-means, back-arc-means}
-use Rattle.judging.proofs.Components.{All-fit, Component-number, components-number, components-show, components-fail}
+use Rattle.judging.proofs.Components.{All-fit, Small-rules, Component-number, components-number, components-show, components-fail}
 
--- THE NUMBERS that are given, by any judge
+-- THE NUMBERS that are given
 
 abbrev Judged-number : ℕ → Type 0
 Judged-number n = (n ≡ 0) ⊎ ((8 ≤ n) × (n ≤ 13))
@@ -67,36 +68,36 @@ exactly true false n f g not-8 not-9 =
       is-9 = (λ h. absurd (not-9 h), λ h. absurd (h .1 (g .0 refl)));
     }
 
-module _ (p : System) (cs : List Component) where
-  judged-exactly : Exactly (judged p (plain p) cs) (components-refusal p (plain p) cs) (Each-once p cs) (No-back-arc p cs)
+module _ (p : System) (j : Judge) (cs : List Component) where
+  judged-exactly : Exactly (judged p j cs) (components-refusal p j cs) (Each-once p cs) (No-back-arc j cs)
   unfolding judged
   judged-exactly =
-      exactly _ _ _ (each-once-means p cs) (back-arc-means p cs)
-      (λ e. ⊎-elim (λ h. omega arith) (λ h. omega arith) (components-number p (plain p) cs))
-      (λ e. ⊎-elim (λ h. omega arith) (λ h. omega arith) (components-number p (plain p) cs))
+      exactly _ _ _ (each-once-means p cs) (back-arc-means j cs)
+      (λ e. ⊎-elim (λ h. omega arith) (λ h. omega arith) (components-number p j cs))
+      (λ e. ⊎-elim (λ h. omega arith) (λ h. omega arith) (components-number p j cs))
 
   -- 8: some pair stands not at all or twice
-  pub judged-8 : (judged p (plain p) cs ≡ 8) ↔ (Each-once p cs → ⊥)
+  pub judged-8 : (judged p j cs ≡ 8) ↔ (Each-once p cs → ⊥)
   judged-8 = judged-exactly .is-8
 
   -- 9: each pair stands once, and an arc leads to a lower component
-  pub judged-9 : (judged p (plain p) cs ≡ 9) ↔ (Each-once p cs × (No-back-arc p cs → ⊥))
+  pub judged-9 : (judged p j cs ≡ 9) ↔ (Each-once p cs × (No-back-arc j cs → ⊥))
   judged-9 = judged-exactly .is-9
 
-  module _ (good : Good p) (fit : All-fit p cs) where
+  module _ (good : Good p) (small-rules : Small-rules j) (fit : All-fit p cs) where
     -- 0: the certificate shows all it must
-    pub judged-0 : (judged p (plain p) cs ≡ 0) ↔ Shows p cs
+    pub judged-0 : (judged p j cs ≡ 0) ↔ Shows p j cs
     judged-0 =
         let passes = judged-exactly .passes 0 (λ e. omega arith) (λ e. omega arith) in
-        let show = components-show p good cs fit in (
+        let show = components-show p j good small-rules cs fit in (
           λ h. let s = passes .0 h in record { each-once = s .0; no-back-arc = s .1; components-show = show .0 (s .2) },
           λ s. passes .1 (s .each-once, s .no-back-arc, show .1 (s .components-show)),
         )
 
     -- 10 to 13: each pair stands once, no arc leads to a lower component, and this is the first component's first failure
     pub judged-10-to-13 :
-        (n : ℕ) → 10 ≤ n → (judged p (plain p) cs ≡ n) ↔ (Each-once p cs × No-back-arc p cs × First-failure p cs n)
+        (n : ℕ) → 10 ≤ n → (judged p j cs ≡ n) ↔ (Each-once p cs × No-back-arc j cs × First-failure p j cs n)
     judged-10-to-13 n b =
         let passes = judged-exactly .passes n (λ e. omega arith) (λ e. omega arith) in
-        let fail = components-fail p good cs fit n b in
+        let fail = components-fail p j good small-rules cs fit n b in
         (λ h. let s = passes .0 h in (s .0, s .1, fail .0 (s .2)), λ s. passes .1 (s .0, s .1, fail .1 (s .2)))

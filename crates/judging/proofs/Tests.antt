@@ -17,7 +17,8 @@ use Rattle.pairs.proofs.Listed.{counted-member, listed-pairs, pairs-listed}
 use Rattle.polynomials.specs.Judging.{any}
 use Rattle.polynomials.proofs.Lists.{any-false-mem, none-pass}
 use Rattle.certificates.specs.Components.{Component}
-use Rattle.judging.specs.Judge.{Judge, plain, all-pairs, each-once, arcs-among, back-arc}
+use Rattle.judging.specs.Judges.{Judge}
+use Rattle.judging.specs.Judge.{all-pairs, each-once, arcs-among, back-arc}
 use Rattle.judging.specs.Shown.{nth-pair, nth, Each-once, No-back-arc}
 use Rattle.judging.proofs.Once.{once-means}
 
@@ -110,15 +111,15 @@ module _ (j : Judge) where
       (or-both-false (below (suc i) (omega arith)) (back (suc i) 0 (omega arith) (omega arith))))
       (λ i k b l. back (suc i) (suc k) (omega arith) (omega arith)))
 
-pub back-arc-means : (p : System) (cs : List Component) → (back-arc (plain p) [] cs ≡ false) ↔ No-back-arc p cs
-unfolding No-back-arc nth-pair plain
-back-arc-means p cs = (to, from)
-  where
-    to : back-arc (plain p) [] cs ≡ false → No-back-arc p cs
-    to h i j k l b c d e = no-arc-at (plain p) (a-pair 0 0) _ _ .0 (none-back (plain p) [] cs h i j b c) k d l e
+  pub back-arc-means : (cs : List Component) → (back-arc j [] cs ≡ false) ↔ No-back-arc j cs
+  unfolding No-back-arc nth-pair
+  back-arc-means cs = (to, from)
+    where
+      to : back-arc j [] cs ≡ false → No-back-arc j cs
+      to none i h k l b c d e = no-arc-at (a-pair 0 0) _ _ .0 (none-back [] cs none i h b c) k d l e
 
-    from : No-back-arc p cs → back-arc (plain p) [] cs ≡ false
-    from h =
-        no-back (plain p) [] cs
-        (λ i _. no-arc-at (plain p) (a-pair 0 0) _ [] .1 (λ k _ l e. absurd (omega arith)))
-        (λ i j b c. no-arc-at (plain p) (a-pair 0 0) _ _ .1 (λ k d l e. h i j k l b c d e))
+      from : No-back-arc j cs → back-arc j [] cs ≡ false
+      from none =
+          no-back [] cs
+          (λ i _. no-arc-at (a-pair 0 0) _ [] .1 (λ k _ l e. absurd (omega arith)))
+          (λ i h b c. no-arc-at (a-pair 0 0) _ _ .1 (λ k d l e. none i h k l b c d e))

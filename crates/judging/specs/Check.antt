@@ -9,7 +9,8 @@ use Rattle.records.specs.Records.{length-bad}
 use Rattle.packs.specs.PackReading as packs
 use Rattle.certificates.specs.CertificateReading as certificates
 use Rattle.certificates.specs.Components.{Component}
-use Rattle.judging.specs.Judge.{plain, judged}
+use Rattle.judging.specs.Judges.{plain}
+use Rattle.judging.specs.Judge.{judged}
 
 unfoldable pub check-read : System → Outcome (List Component) → ℕ
 check-read p (refused n) = n

@@ -1,24 +1,15 @@
--- 8, 9, and each component in turn: 10, or 11, 12, 13. Over a judge, which says what an arc is and which rules a component
--- is judged by; document 01 has one, `plain`.
+-- 8, 9, and each component in turn: 10, or 11, 12, 13; by any judge.
 use mathlib.Core.Bool.{Bool, true, false, _&&_, _||_, cond}
 use mathlib.Core.List.{List, [], _∷_, _++_, map}
 use Prim.Native.Nat.{ℕ}
 use lib.Dec.{eqb}
-use Rattle.rewriting.specs.Terms.{System, Rule}
+use Rattle.rewriting.specs.Terms.{System}
 use Rattle.rewriting.specs.Pairs.{Pair, pair-left, pair-right}
 use Rattle.pairs.specs.Listing.{pairs, count-pair}
-use Rattle.pairs.specs.Arcs.{arc}
 use Rattle.polynomials.specs.Polynomials.{Weighting}
 use Rattle.polynomials.specs.Judging.{Call, any, weightings-refusal}
 use Rattle.certificates.specs.Components.{Component}
-
-pub record Judge : Type 0 where
-  pub arcs : Pair → Pair → Bool
-  pub rules : Component → List Rule
-
--- document 01's: its arcs, and every rule in every component
-unfoldable pub plain : System → Judge
-plain p = record { arcs = arc p; rules = λ c. p .rules }
+use Rattle.judging.specs.Judges.{Judge}
 
 -- 8: every pair of the pack stands exactly once
 unfoldable pub all-pairs : List Component → List Pair

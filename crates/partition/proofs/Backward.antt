@@ -18,7 +18,8 @@ use Rattle.polynomials.specs.Judging.{any}
 use Rattle.polynomials.proofs.Lists.{mem-at, none-pass}
 use Rattle.certificates.specs.Components.{Component}
 use Rattle.entries.specs.declared.Entry.{Entry}
-use Rattle.judging.specs.Judge.{plain, back-arc}
+use Rattle.judging.specs.Judges.{plain}
+use Rattle.judging.specs.Judge.{back-arc}
 use Rattle.judging.specs.Shown.{nth-pair, nth, No-back-arc}
 use Rattle.judging.proofs.Tests.{back-arc-means}
 use Rattle.partition.specs.Working.{lowest, back-to, back-at, any-back}
@@ -125,8 +126,8 @@ module _ (p : System) (cs : List Component) (ls : List ℕ) (rules : ℕ) (few :
   rule-small j l h f = small j h _ (mem-at (a-pair 0 0) (nth cs j .pairs) l f)
 
   -- the rule of a lower pair has its lowest component there or below
-  then-no-arc : any-back p ls rules (entries-from 0 cs) ≡ false → No-back-arc p cs
-  unfolding No-back-arc
+  then-no-arc : any-back p ls rules (entries-from 0 cs) ≡ false → No-back-arc (plain p) cs
+  unfolding No-back-arc plain
   then-no-arc h i j k l b c e f =
       let q = nth-pair (nth cs i) k in
       let r = nth-pair (nth cs j) l in
@@ -138,8 +139,8 @@ module _ (p : System) (cs : List Component) (ls : List ℕ) (rules : ℕ) (few :
       arc-any-place p q s (r .place) ∙ when-true (ltb (getD ls s 0) (suc i)) _ (lt-ltb _ _ less) none
 
   -- a rule with its lowest component below has a pair there
-  then-not-back : No-back-arc p cs → any-back p ls rules (entries-from 0 cs) ≡ false
-  unfolding No-back-arc nth-pair
+  then-not-back : No-back-arc (plain p) cs → any-back p ls rules (entries-from 0 cs) ≡ false
+  unfolding No-back-arc nth-pair plain
   then-not-back h =
       back-none p ls rules 0 cs
       (λ i k own c e is.
@@ -158,8 +159,8 @@ module _ (p : System) (cs : List Component) (ls : List ℕ) (rules : ℕ) (few :
           ap (λ (x : ℕ). arc p q (a-pair x 0)) (sym (r .is)) ∙ sym (arc-any-place p q _ (nth-pair (nth cs (w .at)) (r .at) .place)) ∙ f
 
   pub back-means : any-back p ls rules (entries-from 0 cs) ≡ back-arc (plain p) [] cs
-  back-means = same-by-false _ _ (λ h. back-arc-means p cs .1 (then-no-arc h)) (λ h. then-not-back (back-arc-means p cs .0 h))
+  back-means = same-by-false _ _ (λ h. back-arc-means (plain p) cs .1 (then-no-arc h)) (λ h. then-not-back (back-arc-means (plain p) cs .0 h))
 
 pub one-component : (p : System) (cs : List Component) → length cs ≤ 1 → back-arc (plain p) [] cs ≡ false
 unfolding No-back-arc
-one-component p cs h = back-arc-means p cs .1 (λ i j k l b c e f. absurd (omega arith))
+one-component p cs h = back-arc-means (plain p) cs .1 (λ i j k l b c e f. absurd (omega arith))

@@ -17,7 +17,8 @@ use Rattle.pair_finder.specs.Walking.{first-pairs}
 use Rattle.pair_finder.proofs.FromStore.{stored-pairs}
 use Rattle.certificates.specs.Components.{Component}
 use Rattle.certificates.proofs.OnlyEncodings.{certificate-read}
-use Rattle.judging.specs.Judge.{plain, all-pairs, each-once, back-arc}
+use Rattle.judging.specs.Judges.{plain}
+use Rattle.judging.specs.Judge.{all-pairs, each-once, back-arc}
 use Rattle.entries.specs.declared.Entry.{Entry}
 use Rattle.entries.specs.Entries.{none, entries-of}
 use Rattle.partition.specs.Working.{doubled, All-pairs, All-small, named, lowest, any-taken, any-back, Names-pairs, Judgeable, ordered}

@@ -16,7 +16,8 @@ use Rattle.pairs.specs.Listing.{a-pair, pairs, count-pair}
 use Rattle.pairs.specs.Arcs.{arc}
 use Rattle.certificates.specs.Components.{Component}
 use Rattle.certificates.specs.CertificateReading.{read-certificate}
-use Rattle.judging.specs.Judge.{plain, all-pairs, each-once, back-arc}
+use Rattle.judging.specs.Judges.{plain}
+use Rattle.judging.specs.Judge.{all-pairs, each-once, back-arc}
 use Rattle.entries.specs.declared.Entry.{Entry}
 use Rattle.entries.specs.Entries.{none}
 

@@ -7,7 +7,7 @@ use lib.ListN.{length, getD}
 use Rattle.rewriting.specs.Terms.{Tree, Rule, System, no-rule, rule, is-list}
 use Rattle.rewriting.specs.Pairs.{Pair, pair-left, pair-right, is-pair}
 use Rattle.rewriting.specs.Systems.{Good, variables-below}
-use Rattle.rewriting.proofs.Basics.{Each, each-nil, each-cons, each-at}
+use Rattle.rewriting.proofs.Basics.{Each, each-nil, each-cons, each-at, each-by}
 use Rattle.rewriting.proofs.Trees.{term-not-list}
 use Rattle.rewriting.proofs.Pairs.{pair-left-small, pair-right-small}
 use Rattle.polynomials.specs.Judging.{Call, no-call}
@@ -34,6 +34,13 @@ module _ (p : System) (good : Good p) (i : ℕ) (h : i < length (p .rules)) wher
   unfolding Good
   right-small = record { term = term-not-list p _ (good i h .right-term); small = good i h .right-small }
 
+abbrev pub Small-rule : Rule → Type 0
+Small-rule r = Small-term (r .left) × Small-term (r .right)
+
+pub rules-small : (p : System) → Good p → Each Small-rule (p .rules)
+unfolding rule
+rules-small p good = each-by no-rule (p .rules) (λ i h. (left-small p good i h, right-small p good i h))
+
 -- the two sides that a pair names
 abbrev pub call : System → Pair → Call
 call p q = record { left = pair-left p q; right = pair-right p q }
@@ -46,13 +53,12 @@ module _ (p : System) (good : Good p) where
   calls-small each-nil = each-nil
   calls-small (each-cons q qs h hs) = each-cons _ _ (pair-left-small p q h good, pair-right-small p q h good) (calls-small hs)
 
-  -- all its rules with any of its pairs
-  pub good-small : (qs : List Pair) → Each (λ q. is-pair p q ≡ true) qs → Small (p .rules) (map (call p) qs)
-  unfolding rule
-  good-small qs h =
+  -- such rules with any of its pairs
+  pub good-small : {rs : List Rule} → Each Small-rule rs → (qs : List Pair) → Each (λ q. is-pair p q ≡ true) qs → Small rs (map (call p) qs)
+  good-small rules qs h =
       record {
-        rule-lefts = left-small p good;
-        rule-rights = right-small p good;
+        rule-lefts = λ i l. each-at no-rule rules i l .0;
+        rule-rights = λ i l. each-at no-rule rules i l .1;
         call-lefts = λ k l. each-at no-call (calls-small h) k l .0;
         call-rights = λ k l. each-at no-call (calls-small h) k l .1;
       }

@@ -17,7 +17,8 @@ use Rattle.polynomials.specs.Judging.{any, without, is-none, rule-over, rule-ri
 use Rattle.certificates.specs.Components.{with-pair, last-weighting, on-last, add-weight, add-marked, with-weight, with-marked}
 use Rattle.certificates.specs.CertificateReading.{with-begun, components-of, has-weighting, component-read, pair-read, weights-below, is-place, weight-read, marked-read, inside-read, cert-step, cert-end, cert-from, read-certificate}
 use Rattle.certificates.specs.Encoding.{weight-records, weighting-records, component-records, certificate-bytes}
-use Rattle.judging.specs.Judge.{plain, all-pairs, each-once, arcs-among, back-arc, call, calls, weighed-refusal, component-refusal, components-refusal, judged}
+use Rattle.judging.specs.Judges.{plain}
+use Rattle.judging.specs.Judge.{all-pairs, each-once, arcs-among, back-arc, call, calls, weighed-refusal, component-refusal, components-refusal, judged}
 use Rattle.judging.specs.Check.{check-read, check-pack, check}
 use Rattle.promises.specs.Examples.{division, division-shown, division-less, nothing, nested, nested-shown, nested-exchanged, constants, constants-shown, swapping, swapping-shown, loop, loop-unweighted, loop-under, shrinking, shrinking-pairs, twice, thrice, heavy-s, starred}
 

@@ -38,13 +38,14 @@ use Rattle.certificates.specs.CertificateReading.{read-certificate}
 use Rattle.certificates.proofs.ReadBack as certificate-back
 use Rattle.certificates.proofs.OnlyEncodings as certificate-only
 use Rattle.certificates.proofs.Refusals as certificate-refusals
-use Rattle.judging.specs.Judge.{judged, plain}
+use Rattle.judging.specs.Judges.{plain}
+use Rattle.judging.specs.Judge.{judged}
 use Rattle.judging.specs.Check.{check}
 use Rattle.judging.specs.Shown.{nth, nth-pair}
 use Rattle.judging.proofs.Components.{All-fit}
 use Rattle.judging.proofs.Shows.{judged-8, judged-9, judged-0, judged-10-to-13}
 use Rattle.judging.proofs.Checking.{check-cut, check-of-read, pack-first, then-certificate, check-range, cut-exactly, judged-as}
-use Rattle.judging.proofs.Plain.{judged-plain-terminates}
+use Rattle.judging.proofs.Plain.{plain-small, judged-plain-terminates}
 use Rattle.promises.specs.Promises
 use Rattle.promises.proofs.Refusing.{pack-cut, only-cut, pack-refuses, failing-refused, certificate-cut, only-certificate-cut, certificate-refuses, failing-certificate, pack-given, certificate-given, either-refuses, either-given, only-pack, only-certificate}
 use Rattle.promises.proofs.Starred.{starred-cases, other-numbers, list-short, list-fills, division-arcs, division-sizes, division-pairs}
@@ -175,7 +176,7 @@ accepted-exactly bs ds b d = (λ h. certified h, λ c. accepts c)
           good-certificate = l .1;
           length-within = l .2;
           certificate-is = l .0;
-          shows = judged-0 p (a .components) (k .1 .good) (fit p ds (a .components) (a .certificate-read)) .0 (a .number);
+          shows = judged-0 p (plain p) (a .components) (k .1 .good) (plain-small p (k .1 .good)) (fit p ds (a .components) (a .certificate-read)) .0 (a .number);
         }
 
     accepts : Promises.Certified bs ds → check bs ds ≡ 0
@@ -186,7 +187,7 @@ accepted-exactly bs ds b d = (λ h. certified h, λ c. accepts c)
         let f : read-certificate p ds ≡ passed cs =
         rw (c .certificate-is)
         (certificate-back.read-back p cs (c .good-pack) (c .good-certificate) (rw (c .certificate-is) at (c .length-within))) in
-        check-of-read bs ds p cs e f ∙ judged-0 p cs (c .good-pack .good) (fit p ds cs f) .1 (c .shows)
+        check-of-read bs ds p cs e f ∙ judged-0 p (plain p) cs (c .good-pack .good) (plain-small p (c .good-pack .good)) (fit p ds cs f) .1 (c .shows)
 
 pub refused-1 : Promises.Refused-1
 unfolding Promises.Refused-1
@@ -277,15 +278,15 @@ module _ (n : ℕ) (other : 1 ≤ n → 8 ≤ n) (Fails : System → List Compon
           ∙ here (r .system) (r .components) (r .pack-read) (r .certificate-read) .1 (r .fails)
 
 component-exactly : (n : ℕ) → 10 ≤ n → Promises.Judged-exactly n (Promises.Component-fails n)
-component-exactly n h = judged-exactly n (λ _. omega arith) (Promises.Component-fails n) (λ p cs g f. judged-10-to-13 p cs g f n h)
+component-exactly n h = judged-exactly n (λ _. omega arith) (Promises.Component-fails n) (λ p cs g f. judged-10-to-13 p (plain p) cs g (plain-small p g) f n h)
 
 pub refused-8 : Promises.Refused-8
 unfolding Promises.Refused-8
-refused-8 = judged-exactly 8 (λ _. omega arith) _ (λ p cs g f. judged-8 p cs)
+refused-8 = judged-exactly 8 (λ _. omega arith) _ (λ p cs g f. judged-8 p (plain p) cs)
 
 pub refused-9 : Promises.Refused-9
 unfolding Promises.Refused-9
-refused-9 = judged-exactly 9 (λ _. omega arith) _ (λ p cs g f. judged-9 p cs)
+refused-9 = judged-exactly 9 (λ _. omega arith) _ (λ p cs g f. judged-9 p (plain p) cs)
 
 pub refused-10 : Promises.Refused-10
 unfolding Promises.Refused-10

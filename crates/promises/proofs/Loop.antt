@@ -17,7 +17,8 @@ use Rattle.polynomials.specs.Limit.{limit}
 use Rattle.certificates.specs.CertificateReading.{read-certificate}
 use Rattle.certificates.specs.Encoding.{no-weight, Good-certificate}
 use Rattle.certificates.proofs.OnlyEncodings.{only-encodings}
-use Rattle.judging.specs.Judge.{judged, plain}
+use Rattle.judging.specs.Judges.{plain}
+use Rattle.judging.specs.Judge.{judged}
 use Rattle.judging.specs.Check.{check}
 use Rattle.judging.proofs.Checking.{check-of-read}
 use Rattle.promises.specs.Examples.{loop, loop-under}

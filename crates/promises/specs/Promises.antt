@@ -33,6 +33,7 @@ use Rattle.certificates.specs.CertificateReading as certificates
 use Rattle.certificates.specs.CertificateReading.{read-certificate, cert-from, cert-steps}
 use Rattle.certificates.specs.Encoding.{certificate-bytes, Good-certificate}
 use Rattle.certificates.specs.CertificateFailures.{Certificate-fails}
+use Rattle.judging.specs.Judges.{plain}
 use Rattle.judging.specs.Check.{check}
 use Rattle.judging.specs.Shown.{Each-once, No-back-arc, First-failure, Shows}
 use Rattle.promises.specs.Limits.{largest-pack, longest-certificate, dense-pack, dense-certificate, brink, brink-with}
@@ -141,7 +142,7 @@ pub record Certified (bs ds : List ℕ) : Type 0 where
   pub good-certificate : Good-certificate system components
   pub length-within : length ds ≤ 24576
   pub certificate-is : ds ≡ certificate-bytes components
-  pub shows : Shows system components
+  pub shows : Shows system (plain system) components
 
 unfoldable pub Accepted-exactly : Type 0
 Accepted-exactly =
@@ -252,11 +253,11 @@ Refused-8 = Judged-exactly 8 (λ p cs. Each-once p cs → ⊥)
 
 -- back arc
 unfoldable pub Refused-9 : Type 0
-Refused-9 = Judged-exactly 9 (λ p cs. Each-once p cs × (No-back-arc p cs → ⊥))
+Refused-9 = Judged-exactly 9 (λ p cs. Each-once p cs × (No-back-arc (plain p) cs → ⊥))
 
 -- the first component that fails
 abbrev pub Component-fails : (number : ℕ) → System → List Component → Type 0
-Component-fails n p cs = Each-once p cs × No-back-arc p cs × First-failure p cs n
+Component-fails n p cs = Each-once p cs × No-back-arc (plain p) cs × First-failure p (plain p) cs n
 
 -- self arc
 unfoldable pub Refused-10 : Type 0

@@ -22,7 +22,8 @@ use Rattle.certificates.specs.Components.{Component}
 use Rattle.certificates.specs.CertificateReading as certificates
 use Rattle.certificates.specs.CertificateReading.{read-certificate}
 use Rattle.certificate_reader.specs.Working.{Certificate-read}
-use Rattle.judging.specs.Judge.{judged, plain}
+use Rattle.judging.specs.Judges.{plain}
+use Rattle.judging.specs.Judge.{judged}
 use Rattle.judging.specs.Check.{check}
 use Rattle.partition.specs.Working.{Judgeable}
 use Rattle.checker.specs.Working.{Judged-as}

@@ -14,7 +14,8 @@ use Rattle.records.specs.Outcomes.{refusal}
 use Rattle.records.specs.Answers.{number-of, answer-outcome}
 use Rattle.pairs.specs.Listing.{pairs}
 use Rattle.certificates.specs.Components.{Component}
-use Rattle.judging.specs.Judge.{plain, all-pairs, each-once, back-arc, components-refusal, judged}
+use Rattle.judging.specs.Judges.{plain}
+use Rattle.judging.specs.Judge.{all-pairs, each-once, back-arc, components-refusal, judged}
 use Rattle.partition.specs.Working.{ordered, Ordered-as}
 use Rattle.checker.specs.Working.{Judged-as}
 use Rattle.checker.proofs.FromRead.{components-from}

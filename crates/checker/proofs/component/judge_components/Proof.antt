@@ -20,7 +20,8 @@ use Rattle.records.specs.Outcomes.{refused, passed}
 use Rattle.records.specs.Records.{all-records}
 use Rattle.certificates.specs.Components.{Component, no-component}
 use Rattle.certificates.specs.Encoding.{component-records}
-use Rattle.judging.specs.Judge.{plain, component-refusal, components-refusal}
+use Rattle.judging.specs.Judges.{plain}
+use Rattle.judging.specs.Judge.{component-refusal, components-refusal}
 use Rattle.checker.specs.Working.{Component-at, Component-fits, Component-judged, Rules-known, last-weights, Known-after, Components-from, record-count}
 use Rattle.checker.proofs.Positions.{next-component}
 use Rattle.checker.proofs.Known.{none-known}

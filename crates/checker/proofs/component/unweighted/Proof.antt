@@ -20,7 +20,8 @@ use Rattle.pair_finder.specs.Walking.{Arc-asked}
 use Rattle.pair_finder.proofs.FromStore.{stored-arc, stored-arc-answer}
 use Rattle.polynomials.specs.Polynomials.{Weighting}
 use Rattle.certificates.specs.Components.{Component}
-use Rattle.judging.specs.Judge.{plain, weighed-refusal, component-refusal}
+use Rattle.judging.specs.Judges.{plain}
+use Rattle.judging.specs.Judge.{weighed-refusal, component-refusal}
 use Rattle.partition.specs.Working.{All-pairs}
 use Rattle.checker.specs.Working.{Component-at, Component-fits, Component-judged, weight-count, record-count}
 use Rattle.judging.proofs.Components.{only-arc}
@@ -52,8 +53,8 @@ module _
 
   -- the number, and the record after the component
   number : component-refusal p (plain p) c ≡ cond (arc p q q) 10 0
-  unfolding component-refusal weighed-refusal
-  number = rw (no-weightings (c .weightings) none, only-arc p (a-pair 0 0) (c .pairs) one)
+  unfolding component-refusal weighed-refusal plain
+  number = rw (no-weightings (c .weightings) none, only-arc (plain p) (a-pair 0 0) (c .pairs) one)
 
   counted : at + record-count c ≡ at + 2
   unfolding record-count weight-count
