@@ -1,14 +1,14 @@
 -- Every promise is kept: a proof of each statement of specs/Promises.antt, in its order, each from the theorem that it rests on.
 use mathlib.Core.Path.{_≡_, refl, sym, ap, _∙_}
-use mathlib.Core.Logic.{_↔_}
-use mathlib.Core.List.{List}
+use mathlib.Core.Logic.{_↔_, ⊎-elim}
+use mathlib.Core.List.{List, [], _∷_}
 use Prim.Native.Nat.{ℕ, _≤_}
 use native.Mathlib.Omega.{arith}
 use lib.ListN.{length}
 use Rattle.rewriting.specs.Terms.{System}
 use Rattle.rewriting.specs.Steps.{full}
 use Rattle.rewriting.specs.Chains.{Terminating, Chains-terminating}
-use Rattle.rewriting.specs.Systems.{Good}
+use Rattle.rewriting.specs.Systems.{member, Good}
 use Rattle.rewriting.proofs.Basics.{each-at}
 use Rattle.rewriting.proofs.Relations.{sn-next, sn-none, no-endless, no-loop}
 use Rattle.rewriting.proofs.Defined.{defined-exactly, left-defines}
@@ -24,7 +24,7 @@ use Rattle.packs.proofs.ReadBack as pack-back
 use Rattle.packs.proofs.OnlyEncodings as pack-only
 use Rattle.packs.proofs.Refusals as pack-refusals
 use Rattle.pairs.specs.Listing.{a-pair, pair-record}
-use Rattle.pairs.specs.Answers.{listing, buffer-after, list-value}
+use Rattle.pairs.specs.Answers.{listing, buffer-after, list-value, arc-question}
 use Rattle.pairs.proofs.Listed.{pairs-listed, listing-rises}
 use Rattle.pairs.proofs.Reaching.{arcs-exactly}
 use Rattle.pairs.proofs.ArcsEnough.{arcs-enough}
@@ -47,6 +47,7 @@ use Rattle.judging.proofs.Shows.{judged-8, judged-9, judged-0, judged-10-to-13}
 use Rattle.judging.proofs.Checking.{check-cut, check-of-read, pack-first, then-certificate, check-range, cut-exactly, judged-as}
 use Rattle.judging.proofs.Plain.{plain-small, judged-plain-terminates}
 use Rattle.promises.specs.Promises
+use Rattle.promises.proofs.Numbers.{counted}
 use Rattle.promises.proofs.Refusing.{pack-cut, only-cut, pack-refuses, failing-refused, certificate-cut, only-certificate-cut, certificate-refuses, failing-certificate, pack-given, certificate-given, either-refuses, either-given, only-pack, only-certificate}
 use Rattle.promises.proofs.Starred.{starred-cases, other-numbers, list-short, list-fills, division-arcs, division-sizes, division-pairs}
 use Rattle.promises.proofs.Loop.{loop-checked}
@@ -115,16 +116,20 @@ every-link-kept p q s h o = every-link p q s h o
 
 -- THE FIRST DEMAND
 pub check-range-kept : Promises.Check-range
-unfolding Promises.Check-range
-check-range-kept bs ds = check-range bs ds
+unfolding Promises.Check-range Promises.check-numbers
+check-range-kept bs ds = counted 0 14 (check bs ds) [] (omega arith) (omega (arith, check-range bs ds))
 
 pub listing-range-kept : Promises.Listing-range
-unfolding Promises.Listing-range
-listing-range-kept bs room = listing-range (λ bs. refusal-within (pack-refusals.read-range bs)) bs room
+unfolding Promises.Listing-range Promises.listing-numbers member
+listing-range-kept bs room =
+    ⊎-elim (λ h. counted 0 7 (refusal (listing bs room)) (14 ∷ []) (omega arith) (omega arith)) (λ h. rw h)
+    (listing-range (λ bs. refusal-within (pack-refusals.read-range bs)) bs room)
 
 pub arc-range-kept : Promises.Arc-range
-unfolding Promises.Arc-range
-arc-range-kept bs q r = arc-range (λ bs. refusal-within (pack-refusals.read-range bs)) bs q r
+unfolding Promises.Arc-range Promises.arc-numbers
+arc-range-kept bs q r =
+    counted 0 8 (refusal (arc-question bs q r)) [] (omega arith)
+    (omega (arith, arc-range (λ bs. refusal-within (pack-refusals.read-range bs)) bs q r))
 
 -- THE SECOND DEMAND
 pub records-back : Promises.Records-back

@@ -5,4 +5,5 @@ pub mod Loop
 pub mod Concrete
 pub mod Largest
 pub mod Refusing
+pub mod Numbers
 pub mod Kept

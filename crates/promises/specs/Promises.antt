@@ -12,7 +12,7 @@ use Rattle.rewriting.specs.Contexts.{Context, plugged, Contracts}
 use Rattle.rewriting.specs.Termination.{SN}
 use Rattle.rewriting.specs.Pairs.{Pair, is-pair, pair-left, pair-right, same-root, has-root, arguments, defined}
 use Rattle.rewriting.specs.Chains.{Link, Valid, Next, Terminating, Chains-terminating}
-use Rattle.rewriting.specs.Systems.{variables-below}
+use Rattle.rewriting.specs.Systems.{member, variables-below}
 use Rattle.records.specs.declared.Record.{Record}
 use Rattle.records.specs.Outcomes.{refused, passed, refusal}
 use Rattle.records.specs.Records.{record-at, a-record, all-bytes, all-records, all-record-bytes, length-bad}
@@ -93,14 +93,23 @@ Every-link =
     (p : System) (q : Pair) (s : Substitution) → is-pair p q ≡ true → Over p s → Valid p full (record { pair = q; by = s })
 
 -- THE FIRST DEMAND: every answer is one number of the table
+unfoldable pub check-numbers : List ℕ
+check-numbers = 0 ∷ 1 ∷ 2 ∷ 3 ∷ 4 ∷ 5 ∷ 6 ∷ 7 ∷ 8 ∷ 9 ∷ 10 ∷ 11 ∷ 12 ∷ 13 ∷ []
+
 unfoldable pub Check-range : Type 0
-Check-range = (bs ds : List ℕ) → check bs ds ≤ 13
+Check-range = (bs ds : List ℕ) → member (check bs ds) check-numbers ≡ true
+
+unfoldable pub listing-numbers : List ℕ
+listing-numbers = 0 ∷ 1 ∷ 2 ∷ 3 ∷ 4 ∷ 5 ∷ 6 ∷ 14 ∷ []
 
 unfoldable pub Listing-range : Type 0
-Listing-range = (bs : List ℕ) (room : ℕ) → (refusal (listing bs room) ≤ 6) ⊎ (refusal (listing bs room) ≡ 14)
+Listing-range = (bs : List ℕ) (room : ℕ) → member (refusal (listing bs room)) listing-numbers ≡ true
+
+unfoldable pub arc-numbers : List ℕ
+arc-numbers = 0 ∷ 1 ∷ 2 ∷ 3 ∷ 4 ∷ 5 ∷ 6 ∷ 7 ∷ []
 
 unfoldable pub Arc-range : Type 0
-Arc-range = (bs : List ℕ) (q r : Pair) → refusal (arc-question bs q r) ≤ 7
+Arc-range = (bs : List ℕ) (q r : Pair) → member (refusal (arc-question bs q r)) arc-numbers ≡ true
 
 -- THE SECOND DEMAND: the check accepts exactly when document 01's conditions are met, else gives the first refusal; listing and arc
 -- question are exact too
