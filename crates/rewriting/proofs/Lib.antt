@@ -13,6 +13,8 @@ pub mod Steps
 pub mod Derivations
 -- full rewriting, by contexts
 pub mod Contexts
+-- innermost rewriting, and derivations with a count
+pub mod Innermost
 -- the dependency pair theorem: one way, the other way, both
 pub mod TermsTerminate
 pub mod ChainsTerminate
