@@ -1,12 +1,12 @@
 // The pairs of a pack that was read, and their records.
+use records::Record;
 use terms::MOST_SYMBOLS;
 ghost use mathlib.Core.Path.{_≡_};
 ghost use mathlib.Core.List.{_++_, map};
 ghost use Prim.Native.Nat.{_+_, _*_, _≤_, _<_};
-ghost use lib.ListN.{length, take, drop};
+ghost use lib.ListN.{length, drop};
 ghost use Rattle.terms.specs.Kept.{part};
-ghost use Rattle.pairs.specs.Listing.{a-pair, pair-record, pair-bytes};
-ghost use Rattle.records.specs.Records.{record-bytes};
+ghost use Rattle.pairs.specs.Listing.{a-pair, pair-bytes};
 ghost use Rattle.pair_finder.specs.Walking.{is-defined, places, rule-pairs, first-pairs, Laid, Written};
 
 // The node applies a defined symbol.
@@ -57,21 +57,6 @@ pub fn count_pairs(starts: &[u16], nodes: &[u8], defined: &[u8], rules: usize) -
     n
 }
 
-// Writes a pair's record at byte `at`.
-fn write_record(list: &mut [u8], at: usize, rule: usize, place: usize)
-    requires { ⌜ (at + 8 ≤ length (now list)) × (rule < 65536) × (place < 65536) ⌝ }
-    ensures { λ _. ⌜ now (list .exit) ≡ take at (now (list .entry)) ++ (record-bytes (pair-record (a-pair rule place)) ++ drop (at + 8) (now (list .entry))) ⌝ }
-{
-    list[at] = b'P';
-    list[at + 1] = 0;
-    list[at + 2] = (rule % 256) as u8;
-    list[at + 3] = (rule / 256 % 256) as u8;
-    list[at + 4] = (place % 256) as u8;
-    list[at + 5] = (place / 256 % 256) as u8;
-    list[at + 6] = 0;
-    list[at + 7] = 0;
-}
-
 // Writes the records of rule `rule`'s pairs from byte `at` on. Answers the byte after them.
 fn write_in(
     list: &mut [u8],
@@ -89,7 +74,17 @@ fn write_in(
     let mut i = from;
     while i < to {
         if is_defined(defined, nodes[i]) {
-            write_record(list, next, rule, i - from);
+            records::write_record(
+                list,
+                next,
+                Record {
+                    kind: b'P',
+                    one: 0,
+                    a: rule as u16,
+                    b: (i - from) as u16,
+                    c: 0,
+                },
+            );
             next = next + 8;
         }
         i = i + 1;

@@ -4,9 +4,10 @@ pub mod reader;
 
 ghost use mathlib.Core.Path.{_≡_};
 ghost use mathlib.Core.Bool.{true};
+ghost use mathlib.Core.List.{_++_};
 ghost use Prim.Native.Nat.{_+_, _≤_, _<_};
-ghost use lib.ListN.{length};
-ghost use Rattle.records.specs.Records.{two, record-at, all-bytes};
+ghost use lib.ListN.{length, take, drop};
+ghost use Rattle.records.specs.Records.{two, record-at, record-bytes, all-bytes};
 ghost use Rattle.records.specs.Wanted.{wanted-at};
 ghost use Rattle.records.specs.Answers.{number-of};
 
@@ -109,6 +110,21 @@ pub fn record_at(s: &[u8], i: usize) -> Record
         b: two(s, i + 4),
         c: two(s, i + 6),
     }
+}
+
+// Writes a record at byte `at`.
+pub fn write_record(list: &mut [u8], at: usize, r: Record)
+    requires { ⌜ at + 8 ≤ length (now list) ⌝ }
+    ensures { λ _. ⌜ now (list .exit) ≡ take at (now (list .entry)) ++ (record-bytes r ++ drop (at + 8) (now (list .entry))) ⌝ }
+{
+    list[at] = r.kind;
+    list[at + 1] = r.one;
+    list[at + 2] = (r.a % 256) as u8;
+    list[at + 3] = (r.a / 256 % 256) as u8;
+    list[at + 4] = (r.b % 256) as u8;
+    list[at + 5] = (r.b / 256 % 256) as u8;
+    list[at + 6] = (r.c % 256) as u8;
+    list[at + 7] = (r.c / 256 % 256) as u8;
 }
 
 // The record that begins at byte i, if the table lets its kind stand there. A reader of the file gives it.

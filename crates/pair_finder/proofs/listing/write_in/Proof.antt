@@ -84,6 +84,7 @@ room c =
     (l .inv .0) (turn .loop-test .taken) (start .pre .3) (sym (c .before .is-defined .ensures) ∙ c .if1 .taken) (start .pre .5)
 
 again : tie.Need-loop-again Inv-loop μ-loop
+unfolding pair-record
 again c =
     let turn = c .before .before .before in
     let l = turn .before .loop in
@@ -117,7 +118,9 @@ write-in-spec =
     (λ c. omega arith)
     (λ c κs. search needs)
     (λ c. omega arith)
-    (λ c κs. (omega (arith, room (c .before), c .before .before .before .before .before .loop .inv .2), omega arith, omega arith))
+    (λ c. omega arith)
+    (λ c. omega arith)
+    (λ c κs. omega (arith, room (c .before), c .before .before .before .before .before .loop .inv .2))
     (λ c. omega (arith, room (c .before .before .before .before)))
     (λ c. omega arith)
     (λ c. omega arith)
