@@ -3,6 +3,7 @@
 pub mod Tests
 pub mod Wanted
 pub mod NodeSteps
+pub mod TermNodes
 pub mod SymbolSteps
 -- the phases,
 pub mod SymbolsPhase

@@ -1,5 +1,5 @@
 // Reads a pack, refusals 1 to 6, into arrays that the caller lends.
-mod nodes;
+pub mod nodes;
 mod rules;
 pub mod sides;
 mod symbols;
