@@ -46,22 +46,22 @@ record Applied-at (p : System) (ns : List ℕ) (a : ℕ) (t : Tree) : Type 0 whe
   term : is-term p t ≡ true
   kept : Kept ns a (flat t)
 
--- TWO APPLICATIONS, kept at a and b
+-- TWO APPLICATIONS, kept at a and b, each among nodes of its own
 
-module _ (p : System) (ns : List ℕ) (a b : ℕ) where
-  roots-by-bytes : {t u : Tree} → Applied t → Applied u → Kept ns a (flat t) → Kept ns b (flat u) → same-root t u ≡ eqb (getD ns b 0) (getD ns a 0)
+module _ (p : System) (ns os : List ℕ) (a b : ℕ) where
+  roots-by-bytes : {t u : Tree} → Applied t → Applied u → Kept ns a (flat t) → Kept os b (flat u) → same-root t u ≡ eqb (getD os b 0) (getD ns a 0)
   unfolding flat code same-root has-root
-  roots-by-bytes (applied f ts) (applied g us) x y = rw (kept-first ns a (symbol f) (flat ts) x, kept-first ns b (symbol g) (flat us) y)
+  roots-by-bytes (applied f ts) (applied g us) x y = rw (kept-first ns a (symbol f) (flat ts) x, kept-first os b (symbol g) (flat us) y)
 
   module _ (ar ms : List ℕ) (are : take (length (p .arities)) ar ≡ p .arities) (few : length (p .arities) ≤ 64)
-      (flags : (f : ℕ) → f < 64 → getD ms f 0 ≡ cond (defined p f) 1 0) (e : getD ns a 0 ≡ getD ns b 0) where
-    arguments-kept : {t u : Tree} → Applied t → Applied u → is-term p t ≡ true → is-term p u ≡ true → Kept ns a (flat t) → Kept ns b (flat u) →
-        Two-lists p ar ms ns (a + 1) (a + length (flat t)) (b + 1) (arguments t) (arguments u)
+      (flags : (f : ℕ) → f < 64 → getD ms f 0 ≡ cond (defined p f) 1 0) (e : getD ns a 0 ≡ getD os b 0) where
+    arguments-kept : {t u : Tree} → Applied t → Applied u → is-term p t ≡ true → is-term p u ≡ true → Kept ns a (flat t) → Kept os b (flat u) →
+        Two-lists p ar ms ns os (a + 1) (a + length (flat t)) (b + 1) (arguments t) (arguments u)
     unfolding flat code arguments
     arguments-kept (applied f ts) (applied g us) h k x y =
         let v = well-app p f ts (term-well p _ h) in
         let w = well-app p g us (term-well p _ k) in
-        let same : f ≡ g = sym (kept-first ns a (symbol f) (flat ts) x) ∙ e ∙ kept-first ns b (symbol g) (flat us) y in
+        let same : f ≡ g = sym (kept-first ns a (symbol f) (flat ts) x) ∙ e ∙ kept-first os b (symbol g) (flat us) y in
         record {
           arities-are = are;
           arities-few = few;
@@ -73,7 +73,7 @@ module _ (p : System) (ns : List ℕ) (a b : ℕ) where
           as-many = same-arity p f ts g us (term-well p _ h) (term-well p _ k) same;
           first-kept = kept-others ns a (symbol f) (flat ts) x;
           first-ends = omega arith;
-          other-kept = kept-others ns b (symbol g) (flat us) y;
+          other-kept = kept-others os b (symbol g) (flat us) y;
         }
 
 -- AN ARC ASKED
@@ -127,7 +127,7 @@ module _ (ar ss ns ms : List ℕ) (right other : ℕ) (a : Arc-asked ar ss ns ms
       }
 
   roots-asked : same-root (pair-right (a .system) (a .pair)) (pair-left (a .system) (a-pair other 0)) ≡ eqb (getD ns (getD ss (2 * other) 0) 0) (getD ns right 0)
-  roots-asked = roots-by-bytes (a .system) ns right (getD ss (2 * other) 0) (right-kept .is) (left-kept .is) (right-kept .kept) (left-kept .kept)
+  roots-asked = roots-by-bytes (a .system) ns ns right (getD ss (2 * other) 0) (right-kept .is) (left-kept .is) (right-kept .kept) (left-kept .kept)
 
   -- unlike first bytes are unlike roots
   pub no-arc : (getD ns right 0 ≡ getD ns (getD ss (2 * other) 0) 0 → ⊥) → arc (a .system) (a .pair) (a-pair other 0) ≡ false
@@ -136,7 +136,7 @@ module _ (ar ss ns ms : List ℕ) (right other : ℕ) (a : Arc-asked ar ss ns ms
 
   -- like ones leave it to the arguments
   module _ (e : getD ns right 0 ≡ getD ns (getD ss (2 * other) 0) 0) (end : ℕ) (ends : (s : Term-at ar ns right) → end ≡ right + length (flat (s .term))) where
-    pub to-walk : Walkable ar ms ns (right + 1) end (getD ss (2 * other) 0 + 1)
+    pub to-walk : Walkable ar ms ns ns (right + 1) end (getD ss (2 * other) 0 + 1)
     unfolding right-at
     to-walk =
         record {
@@ -145,11 +145,11 @@ module _ (ar ss ns ms : List ℕ) (right other : ℕ) (a : Arc-asked ar ss ns ms
           other = arguments (pair-left (a .system) (a-pair other 0));
           lists =
               rw (ends right-at)
-              (arguments-kept (a .system) ns right (getD ss (2 * other) 0) ar ms arities-kept (a .stored .good .symbols) (a .stored .flags-are) e
+              (arguments-kept (a .system) ns ns right (getD ss (2 * other) 0) ar ms arities-kept (a .stored .good .symbols) (a .stored .flags-are) e
               (right-kept .is) (left-kept .is) (right-kept .term) (left-kept .term) (right-kept .kept) (left-kept .kept));
         }
 
-    pub arc-walked : (r : Bool) → ((w : Walkable ar ms ns (right + 1) end (getD ss (2 * other) 0 + 1)) → r ≡ may-reach (w .system) (w .first) (w .other)) →
+    pub arc-walked : (r : Bool) → ((w : Walkable ar ms ns ns (right + 1) end (getD ss (2 * other) 0 + 1)) → r ≡ may-reach (w .system) (w .first) (w .other)) →
         r ≡ arc (a .system) (a .pair) (a-pair other 0)
     unfolding arc to-walk
     arc-walked r h = rw (roots-asked, eq-eqb (getD ns (getD ss (2 * other) 0) 0) (getD ns right 0) (sym e)) (h to-walk)

@@ -55,7 +55,7 @@ module _ (p : System) where
 
 -- ONE TURN, where the first of each list is at hand
 
-module _ (p : System) (ar ms ns : List ℕ) (i end k : ℕ) (t ts u us : Tree) (b : Two-lists p ar ms ns i end k (cons t ts) (cons u us)) where
+module _ (p : System) (ar ms ns os : List ℕ) (i end k : ℕ) (t ts u us : Tree) (b : Two-lists p ar ms ns os i end k (cons t ts) (cons u us)) where
   first-term : is-term p t ≡ true
   first-term = well-cons p t ts (b .well-first) .0
 
@@ -67,13 +67,13 @@ module _ (p : System) (ar ms ns : List ℕ) (i end k : ℕ) (t ts u us : Tree) (
   first-at =
       record { system = p; term = t; arities-are = b .arities-are; arities-few = b .arities-few; is = first-term; kept = kept-left ns i (flat t) (flat ts) (b .first-kept) }
 
-  other-at : Term-at ar ns k
+  other-at : Term-at ar os k
   unfolding flat
   other-at =
-      record { system = p; term = u; arities-are = b .arities-are; arities-few = b .arities-few; is = other-term; kept = kept-left ns k (flat u) (flat us) (b .other-kept) }
+      record { system = p; term = u; arities-are = b .arities-are; arities-few = b .arities-few; is = other-term; kept = kept-left os k (flat u) (flat us) (b .other-kept) }
 
   -- both are skipped
-  skipped : Two-lists p ar ms ns (i + length (flat t)) end (k + length (flat u)) ts us
+  skipped : Two-lists p ar ms ns os (i + length (flat t)) end (k + length (flat u)) ts us
   unfolding flat width
   skipped =
       record {
@@ -87,20 +87,20 @@ module _ (p : System) (ar ms ns : List ℕ) (i end k : ℕ) (t ts u us : Tree) (
         as-many = omega (arith, b .as-many);
         first-kept = kept-right ns i (flat t) (flat ts) (b .first-kept);
         first-ends = omega (arith, b .first-ends, length-append (flat t) (flat ts));
-        other-kept = kept-right ns k (flat u) (flat us) (b .other-kept);
+        other-kept = kept-right os k (flat u) (flat us) (b .other-kept);
       }
 
 -- both are applications, the first of a constructor
 data Applications (p : System) : Tree → Tree → Type 0 where
   applications : (f : ℕ) (ts : Tree) (g : ℕ) (us : Tree) → defined p f ≡ false → Applications p (app f ts) (app g us)
 
-module _ (p : System) (ms ns : List ℕ) (are : (f : ℕ) → f < 64 → getD ms f 0 ≡ cond (defined p f) 1 0) (few : length (p .arities) ≤ 64) (i k : ℕ) where
+module _ (p : System) (ms ns os : List ℕ) (are : (f : ℕ) → f < 64 → getD ms f 0 ≡ cond (defined p f) 1 0) (few : length (p .arities) ≤ 64) (i k : ℕ) where
   symbol-small : (f : ℕ) (ts : Tree) → well p (app f ts) ≡ true → f < 64
   symbol-small f ts h = let l = well-app p f ts h .0 in omega arith
 
   -- what the bytes say of a jump is so of the terms
-  jump-reaches : (t u : Tree) → is-term p t ≡ true → is-term p u ≡ true → Kept ns i (flat t) → Kept ns k (flat u) →
-      jumps ms (getD ns i 0) (getD ns k 0) ≡ true → may-reach p t u ≡ true
+  jump-reaches : (t u : Tree) → is-term p t ≡ true → is-term p u ≡ true → Kept ns i (flat t) → Kept os k (flat u) →
+      jumps ms (getD ns i 0) (getD os k 0) ≡ true → may-reach p t u ≡ true
   unfolding may-reach is-term is-list flat code jumps
   jump-reaches (var v) u h g a b j = refl
   jump-reaches (app f ts) (var w) h g a b j = refl
@@ -108,21 +108,21 @@ module _ (p : System) (ms ns : List ℕ) (are : (f : ℕ) → f < 64 → getD ms
       let l = symbol-small f ts h in
       let m = symbol-small e us g in
       or-left _
-      (rw (kept-first ns i (symbol f) (flat ts) a, kept-first ns k (symbol e) (flat us) b, lt-leb 64 f l, lt-leb 64 e m, symbol-defined p ms are few f l) at j)
+      (rw (kept-first ns i (symbol f) (flat ts) a, kept-first os k (symbol e) (flat us) b, lt-leb 64 f l, lt-leb 64 e m, symbol-defined p ms are few f l) at j)
   jump-reaches (app f ts) nil h g a b j = absurd (false≢true g)
   jump-reaches (app f ts) (cons u us) h g a b j = absurd (false≢true g)
   jump-reaches nil u h g a b j = absurd (false≢true h)
   jump-reaches (cons t ts) u h g a b j = absurd (false≢true h)
 
-  no-jump : (t u : Tree) → is-term p t ≡ true → is-term p u ≡ true → Kept ns i (flat t) → Kept ns k (flat u) →
-      jumps ms (getD ns i 0) (getD ns k 0) ≡ false → Applications p t u
+  no-jump : (t u : Tree) → is-term p t ≡ true → is-term p u ≡ true → Kept ns i (flat t) → Kept os k (flat u) →
+      jumps ms (getD ns i 0) (getD os k 0) ≡ false → Applications p t u
   unfolding is-term is-list flat code jumps
   no-jump (var v) u h g a b j =
       let s : leb 64 (getD ns i 0) ≡ false = search ors in
       absurd (omega (arith, leb-false 64 (getD ns i 0) s, kept-first ns i (variable v) [] a))
   no-jump (app f ts) (var w) h g a b j =
-      let s : leb 64 (getD ns k 0) ≡ false = search ors in
-      absurd (omega (arith, leb-false 64 (getD ns k 0) s, kept-first ns k (variable w) [] b))
+      let s : leb 64 (getD os k 0) ≡ false = search ors in
+      absurd (omega (arith, leb-false 64 (getD os k 0) s, kept-first os k (variable w) [] b))
   no-jump (app f ts) (app e us) h g a b j =
       let s : is-defined ms (getD ns i 0) ≡ false = search ors in
       applications f ts e us (sym (symbol-defined p ms are few f (symbol-small f ts h)) ∙ (rw (kept-first ns i (symbol f) (flat ts) a) at s))
@@ -132,15 +132,15 @@ module _ (p : System) (ms ns : List ℕ) (are : (f : ℕ) → f < 64 → getD ms
   no-jump (cons t ts) u h g a b j = absurd (false≢true h)
 
 -- both are entered: their arguments come before the others
-module _ (p : System) (ar ms ns : List ℕ) (i end k f : ℕ) (vs ts : Tree) (g : ℕ) (ws us : Tree)
-    (b : Two-lists p ar ms ns i end k (cons (app f vs) ts) (cons (app g ws) us)) where
+module _ (p : System) (ar ms ns os : List ℕ) (i end k f : ℕ) (vs ts : Tree) (g : ℕ) (ws us : Tree)
+    (b : Two-lists p ar ms ns os i end k (cons (app f vs) ts) (cons (app g ws) us)) where
   first-byte : getD ns i 0 ≡ f
   unfolding flat code
   first-byte = kept-first ns i (symbol f) _ (b .first-kept)
 
-  other-byte : getD ns k 0 ≡ g
+  other-byte : getD os k 0 ≡ g
   unfolding flat code
-  other-byte = kept-first ns k (symbol g) _ (b .other-kept)
+  other-byte = kept-first os k (symbol g) _ (b .other-kept)
 
   first-well : well p (app f vs) ≡ true
   first-well = term-well p _ (well-cons p (app f vs) ts (b .well-first) .0)
@@ -148,7 +148,7 @@ module _ (p : System) (ar ms ns : List ℕ) (i end k f : ℕ) (vs ts : Tree) (g 
   other-well : well p (app g ws) ≡ true
   other-well = term-well p _ (well-cons p (app g ws) us (b .well-other) .0)
 
-  entered : f ≡ g → Two-lists p ar ms ns (i + 1) end (k + 1) (joined vs ts) (joined ws us)
+  entered : f ≡ g → Two-lists p ar ms ns os (i + 1) end (k + 1) (joined vs ts) (joined ws us)
   unfolding flat width
   entered e =
       let x = well-app p f vs first-well in
@@ -167,7 +167,7 @@ module _ (p : System) (ar ms ns : List ℕ) (i end k f : ℕ) (vs ts : Tree) (g 
         as-many = omega (arith, b .as-many, joined-width p vs ts (x .2) (x .3), joined-width p ws us (y .2) (y .3), same-arity p f vs g ws first-well other-well e);
         first-kept = rw j (kept-others ns i (symbol f) (flat vs ++ flat ts) (b .first-kept));
         first-ends = omega (arith, b .first-ends, ap length j);
-        other-kept = rw (joined-flat p ws us (y .2) (y .3)) (kept-others ns k (symbol g) (flat ws ++ flat us) (b .other-kept));
+        other-kept = rw (joined-flat p ws us (y .2) (y .3)) (kept-others os k (symbol g) (flat ws ++ flat us) (b .other-kept));
       }
 
   -- where the first symbol is a constructor, the symbols decide
@@ -184,106 +184,106 @@ module _ (p : System) (ar ms ns : List ℕ) (i end k f : ℕ) (vs ts : Tree) (g 
 
 -- THE WALK
 
-two-in-step : {p : System} {ar ms ns : List ℕ} {i end k : ℕ} {ts us : Tree} → Two-lists p ar ms ns i end k ts us → In-step ts us
+two-in-step : {p : System} {ar ms ns os : List ℕ} {i end k : ℕ} {ts us : Tree} → Two-lists p ar ms ns os i end k ts us → In-step ts us
 two-in-step {p} {ts = ts} {us = us} b = in-step p ts us (b .list) (b .well-first) (b .other-list) (b .well-other) (b .as-many)
 
 -- two lists are still to be compared, and their comparison is the answer
-pub record To-walk (p : System) (ar ms ns : List ℕ) (end : ℕ) (answer : Bool) (i k : ℕ) : Type 0 where
+pub record To-walk (p : System) (ar ms ns os : List ℕ) (end : ℕ) (answer : Bool) (i k : ℕ) : Type 0 where
   pub firsts : Tree
   pub others : Tree
-  pub lists : Two-lists p ar ms ns i end k firsts others
+  pub lists : Two-lists p ar ms ns os i end k firsts others
   pub same : answer ≡ may-reach p firsts others
 
-module _ (p : System) (ar ms ns : List ℕ) (end : ℕ) (answer : Bool) (i k : ℕ) where
+module _ (p : System) (ar ms ns os : List ℕ) (end : ℕ) (answer : Bool) (i k : ℕ) where
   -- with the first of each at hand
   data At-hand : Type 0 where
-    at-hand : (t ts u us : Tree) → Two-lists p ar ms ns i end k (cons t ts) (cons u us) → answer ≡ may-reach p (cons t ts) (cons u us) → At-hand
+    at-hand : (t ts u us : Tree) → Two-lists p ar ms ns os i end k (cons t ts) (cons u us) → answer ≡ may-reach p (cons t ts) (cons u us) → At-hand
 
-  both-at-hand : To-walk p ar ms ns end answer i k → i < end → At-hand
+  both-at-hand : To-walk p ar ms ns os end answer i k → i < end → At-hand
   unfolding flat
   both-at-hand w h = go (two-in-step (w .lists)) (w .lists) (w .same)
     where
-      go : {ts us : Tree} → In-step ts us → Two-lists p ar ms ns i end k ts us → answer ≡ may-reach p ts us → At-hand
+      go : {ts us : Tree} → In-step ts us → Two-lists p ar ms ns os i end k ts us → answer ≡ may-reach p ts us → At-hand
       go both-nil b e = absurd (omega (arith, b .first-ends))
       go (both-cons t ts u us s) b e = at-hand t ts u us b e
 
   -- nothing is left
-  pub walk-ends : To-walk p ar ms ns end answer i k → end ≤ i → answer ≡ true
+  pub walk-ends : To-walk p ar ms ns os end answer i k → end ≤ i → answer ≡ true
   unfolding flat may-reach
   walk-ends w h = go (two-in-step (w .lists)) (w .lists) (w .same)
     where
-      go : {ts us : Tree} → In-step ts us → Two-lists p ar ms ns i end k ts us → answer ≡ may-reach p ts us → answer ≡ true
+      go : {ts us : Tree} → In-step ts us → Two-lists p ar ms ns os i end k ts us → answer ≡ may-reach p ts us → answer ≡ true
       go both-nil b e = e
       go (both-cons t ts u us s) b e =
-          let l = flat-positive t (term-not-list p t (first-term p ar ms ns i end k t ts u us b)) in
+          let l = flat-positive t (term-not-list p t (first-term p ar ms ns os i end k t ts u us b)) in
           absurd (omega (arith, b .first-ends, length-append (flat t) (flat ts)))
 
   -- a term is kept at each place
-  pub first-there : To-walk p ar ms ns end answer i k → i < end → Term-at ar ns i
+  pub first-there : To-walk p ar ms ns os end answer i k → i < end → Term-at ar ns i
   first-there w h = go (both-at-hand w h)
     where
       go : At-hand → Term-at ar ns i
-      go (at-hand t ts u us b e) = first-at p ar ms ns i end k t ts u us b
+      go (at-hand t ts u us b e) = first-at p ar ms ns os i end k t ts u us b
 
-  pub other-there : To-walk p ar ms ns end answer i k → i < end → Term-at ar ns k
+  pub other-there : To-walk p ar ms ns os end answer i k → i < end → Term-at ar os k
   other-there w h = go (both-at-hand w h)
     where
-      go : At-hand → Term-at ar ns k
-      go (at-hand t ts u us b e) = other-at p ar ms ns i end k t ts u us b
+      go : At-hand → Term-at ar os k
+      go (at-hand t ts u us b e) = other-at p ar ms ns os i end k t ts u us b
 
   -- a jump goes past both
-  pub jumped : To-walk p ar ms ns end answer i k → i < end → jumps ms (getD ns i 0) (getD ns k 0) ≡ true →
-      (m n : ℕ) → ((s : Term-at ar ns i) → m ≡ i + length (flat (s .term))) → ((s : Term-at ar ns k) → n ≡ k + length (flat (s .term))) →
-      To-walk p ar ms ns end answer m n
+  pub jumped : To-walk p ar ms ns os end answer i k → i < end → jumps ms (getD ns i 0) (getD os k 0) ≡ true →
+      (m n : ℕ) → ((s : Term-at ar ns i) → m ≡ i + length (flat (s .term))) → ((s : Term-at ar os k) → n ≡ k + length (flat (s .term))) →
+      To-walk p ar ms ns os end answer m n
   unfolding may-reach first-at other-at
   jumped w h j m n x y = go (both-at-hand w h)
     where
-      go : At-hand → To-walk p ar ms ns end answer m n
+      go : At-hand → To-walk p ar ms ns os end answer m n
       go (at-hand t ts u us b e) =
-          let first = first-at p ar ms ns i end k t ts u us b in
-          let other = other-at p ar ms ns i end k t ts u us b in
-          let r = jump-reaches p ms ns (b .flags-are) (b .arities-few) i k t u (first .is) (other .is) (first .kept) (other .kept) j in
-          record { firsts = ts; others = us; lists = rw (x first, y other) (skipped p ar ms ns i end k t ts u us b); same = e ∙ rw r }
+          let first = first-at p ar ms ns os i end k t ts u us b in
+          let other = other-at p ar ms ns os i end k t ts u us b in
+          let r = jump-reaches p ms ns os (b .flags-are) (b .arities-few) i k t u (first .is) (other .is) (first .kept) (other .kept) j in
+          record { firsts = ts; others = us; lists = rw (x first, y other) (skipped p ar ms ns os i end k t ts u us b); same = e ∙ rw r }
 
   -- without a jump both are applications
   data At-symbols : Type 0 where
-    at-symbols : (f : ℕ) (vs ts : Tree) (g : ℕ) (ws us : Tree) → defined p f ≡ false → Two-lists p ar ms ns i end k (cons (app f vs) ts) (cons (app g ws) us) →
+    at-symbols : (f : ℕ) (vs ts : Tree) (g : ℕ) (ws us : Tree) → defined p f ≡ false → Two-lists p ar ms ns os i end k (cons (app f vs) ts) (cons (app g ws) us) →
         answer ≡ may-reach p (cons (app f vs) ts) (cons (app g ws) us) → At-symbols
 
-  module _ (w : To-walk p ar ms ns end answer i k) (h : i < end) (j : jumps ms (getD ns i 0) (getD ns k 0) ≡ false) where
+  module _ (w : To-walk p ar ms ns os end answer i k) (h : i < end) (j : jumps ms (getD ns i 0) (getD os k 0) ≡ false) where
     both-symbols : At-symbols
     unfolding first-at other-at
     both-symbols = go (both-at-hand w h)
       where
-        symbols : {t u : Tree} (ts us : Tree) → Applications p t u → Two-lists p ar ms ns i end k (cons t ts) (cons u us) →
+        symbols : {t u : Tree} (ts us : Tree) → Applications p t u → Two-lists p ar ms ns os i end k (cons t ts) (cons u us) →
             answer ≡ may-reach p (cons t ts) (cons u us) → At-symbols
         symbols ts us (applications f vs g ws d) b e = at-symbols f vs ts g ws us d b e
 
         go : At-hand → At-symbols
         go (at-hand t ts u us b e) =
-            let first = first-at p ar ms ns i end k t ts u us b in
-            let other = other-at p ar ms ns i end k t ts u us b in
-            symbols ts us (no-jump p ms ns (b .flags-are) (b .arities-few) i k t u (first .is) (other .is) (first .kept) (other .kept) j) b e
+            let first = first-at p ar ms ns os i end k t ts u us b in
+            let other = other-at p ar ms ns os i end k t ts u us b in
+            symbols ts us (no-jump p ms ns os (b .flags-are) (b .arities-few) i k t u (first .is) (other .is) (first .kept) (other .kept) j) b e
 
     -- unlike symbols end the walk
-    pub walk-stops : (getD ns i 0 ≡ getD ns k 0 → ⊥) → answer ≡ false
+    pub walk-stops : (getD ns i 0 ≡ getD os k 0 → ⊥) → answer ≡ false
     walk-stops d = go both-symbols
       where
         go : At-symbols → answer ≡ false
         go (at-symbols f vs ts g ws us c b e) =
-            let unlike : f ≡ g → ⊥ = λ x. d (first-byte p ar ms ns i end k f vs ts g ws us b ∙ x ∙ sym (other-byte p ar ms ns i end k f vs ts g ws us b)) in
-            e ∙ symbols-differ p ar ms ns i end k f vs ts g ws us b unlike c
+            let unlike : f ≡ g → ⊥ = λ x. d (first-byte p ar ms ns os i end k f vs ts g ws us b ∙ x ∙ sym (other-byte p ar ms ns os i end k f vs ts g ws us b)) in
+            e ∙ symbols-differ p ar ms ns os i end k f vs ts g ws us b unlike c
 
     -- and like symbols are entered
-    pub walk-enters : getD ns i 0 ≡ getD ns k 0 → To-walk p ar ms ns end answer (i + 1) (k + 1)
+    pub walk-enters : getD ns i 0 ≡ getD os k 0 → To-walk p ar ms ns os end answer (i + 1) (k + 1)
     walk-enters d = go both-symbols
       where
-        go : At-symbols → To-walk p ar ms ns end answer (i + 1) (k + 1)
+        go : At-symbols → To-walk p ar ms ns os end answer (i + 1) (k + 1)
         go (at-symbols f vs ts g ws us c b e) =
-            let like : f ≡ g = sym (first-byte p ar ms ns i end k f vs ts g ws us b) ∙ d ∙ other-byte p ar ms ns i end k f vs ts g ws us b in
+            let like : f ≡ g = sym (first-byte p ar ms ns os i end k f vs ts g ws us b) ∙ d ∙ other-byte p ar ms ns os i end k f vs ts g ws us b in
             record {
               firsts = joined vs ts;
               others = joined ws us;
-              lists = entered p ar ms ns i end k f vs ts g ws us b like;
-              same = e ∙ entered-reach p ar ms ns i end k f vs ts g ws us b like c;
+              lists = entered p ar ms ns os i end k f vs ts g ws us b like;
+              same = e ∙ entered-reach p ar ms ns os i end k f vs ts g ws us b like c;
             }

@@ -43,8 +43,8 @@ pub record Laid (starts nodes : List ℕ) (rules : ℕ) : Type 0 where
   pub short : (i : ℕ) → i < rules → getD starts (2 * i + 2) 0 ≤ getD starts (2 * i + 1) 0 + 32
   pub within : (i : ℕ) → i < rules → getD starts (2 * i + 2) 0 ≤ length nodes
 
--- two argument lists of one length kept at two places, the first up to `end`
-pub record Two-lists (p : System) (arities flags nodes : List ℕ) (u end v : ℕ) (ts us : Tree) : Type 0 where
+-- two argument lists of one length, the first kept among `nodes` up to `end`, the second among `others`
+pub record Two-lists (p : System) (arities flags nodes others : List ℕ) (u end v : ℕ) (ts us : Tree) : Type 0 where
   pub arities-are : take (length (p .arities)) arities ≡ p .arities
   pub arities-few : length (p .arities) ≤ 64
   pub flags-are : (f : ℕ) → f < 64 → getD flags f 0 ≡ cond (defined p f) 1 0
@@ -55,14 +55,14 @@ pub record Two-lists (p : System) (arities flags nodes : List ℕ) (u end v : �
   pub as-many : width ts ≡ width us
   pub first-kept : Kept nodes u (flat ts)
   pub first-ends : end ≡ u + length (flat ts)
-  pub other-kept : Kept nodes v (flat us)
+  pub other-kept : Kept others v (flat us)
 
 -- some two lists are kept there
-pub record Walkable (arities flags nodes : List ℕ) (u end v : ℕ) : Type 0 where
+pub record Walkable (arities flags nodes others : List ℕ) (u end v : ℕ) : Type 0 where
   pub system : System
   pub first : Tree
   pub other : Tree
-  pub lists : Two-lists system arities flags nodes u end v first other
+  pub lists : Two-lists system arities flags nodes others u end v first other
 
 -- the walk skips a term on either side: one is a variable, or the first has a defined root
 unfoldable pub jumps : (flags : List ℕ) → (c d : ℕ) → Bool

@@ -41,8 +41,8 @@ fn enters(defined: &[u8], c: u8, d: u8) -> bool
 
 // Each argument of the one list, kept from u to `end`, may reach the argument of the other, kept from v on.
 fn may_reach(arities: &[u8], defined: &[u8], nodes: &[u8], u: usize, end: usize, v: usize) -> bool
-    requires { ⌜ (length (now arities) ≡ 64) × (length (now defined) ≡ 64) × (length (now nodes) ≤ 65536) × Walkable (now arities) (now defined) (now nodes) u end v ⌝ }
-    ensures { λ r. ⌜ ((w : Walkable (now (arities .entry)) (now (defined .entry)) (now (nodes .entry)) u end v) → r ≡ may-reach (w .system) (w .first) (w .other)) ⌝ }
+    requires { ⌜ (length (now arities) ≡ 64) × (length (now defined) ≡ 64) × (length (now nodes) ≤ 65536) × Walkable (now arities) (now defined) (now nodes) (now nodes) u end v ⌝ }
+    ensures { λ r. ⌜ ((w : Walkable (now (arities .entry)) (now (defined .entry)) (now (nodes .entry)) (now (nodes .entry)) u end v) → r ≡ may-reach (w .system) (w .first) (w .other)) ⌝ }
 {
     let mut i = u;
     let mut k = v;

@@ -19,7 +19,7 @@ use Rattle.pair_finder.proofs.arcs.may_reach.Tie as tie
 
 abbrev Inv-loop : tie.InvT-loop
 Inv-loop arities flags nodes u end v i₀ k₀ i k =
-    (w : Walkable arities flags nodes u end v) → To-walk (w .system) arities flags nodes end (may-reach (w .system) (w .first) (w .other)) i k
+    (w : Walkable arities flags nodes nodes u end v) → To-walk (w .system) arities flags nodes nodes end (may-reach (w .system) (w .first) (w .other)) i k
 
 abbrev μ-loop : tie.MeasureT-loop
 μ-loop arities flags nodes u end v i₀ k₀ i k = end - i
@@ -42,19 +42,19 @@ module _ (c : tie.In-loop Inv-loop μ-loop) where
   first : Term-at (c .before .before .before .before .before .args .arities .now) (c .before .before .before .before .before .args .nodes .now) (c .before .loop .i)
   first =
       let l = c .before .loop in
-      first-there _ _ _ _ _ _ (l .i) (l .k) (l .inv (c .before .before .before .before .before .pre .3)) (c .loop-test .taken)
+      first-there _ _ _ _ _ _ _ (l .i) (l .k) (l .inv (c .before .before .before .before .before .pre .3)) (c .loop-test .taken)
 
   other : Term-at (c .before .before .before .before .before .args .arities .now) (c .before .before .before .before .before .args .nodes .now) (c .before .loop .k)
   other =
       let l = c .before .loop in
-      other-there _ _ _ _ _ _ (l .i) (l .k) (l .inv (c .before .before .before .before .before .pre .3)) (c .loop-test .taken)
+      other-there _ _ _ _ _ _ _ (l .i) (l .k) (l .inv (c .before .before .before .before .before .pre .3)) (c .loop-test .taken)
 
 enters-both : tie.Need-loop-again Inv-loop μ-loop
 enters-both c w =
     let turn = c .before .before .before .before in
     let l = turn .before .loop in
     let e = no-jump _ _ _ (sym (c .before .enters .ensures) ∙ c .if1 .taken) in
-    walk-enters _ _ _ _ _ _ (l .i) (l .k) (l .inv w) (turn .loop-test .taken) (e .1) (e .0)
+    walk-enters _ _ _ _ _ _ _ (l .i) (l .k) (l .inv w) (turn .loop-test .taken) (e .1) (e .0)
 
 -- no jump, and not the same on both sides
 stops : tie.Need-returns Inv-loop μ-loop
@@ -64,7 +64,7 @@ stops c w =
     let l = turn .before .loop in
     let j = sym (c .before .jumps .ensures) ∙ not-true _ (c .if2 .taken) in
     sym
-    (walk-stops _ _ _ _ _ _ (l .i) (l .k) (l .inv w) (turn .loop-test .taken) j (not-same _ _ _ (sym (apart .before .enters .ensures) ∙ apart .if1 .left) j))
+    (walk-stops _ _ _ _ _ _ _ (l .i) (l .k) (l .inv w) (turn .loop-test .taken) j (not-same _ _ _ (sym (apart .before .enters .ensures) ∙ apart .if1 .left) j))
 
 asked : tie.Need-skip-requires Inv-loop μ-loop
 asked c κs =
@@ -88,11 +88,11 @@ past-both c w =
     let jump = c .before .before in
     let turn = jump .before .before .before .before .before .before in
     let l = turn .before .loop in
-    jumped _ _ _ _ _ _ (l .i) (l .k) (l .inv w) (turn .loop-test .taken) (sym (jump .before .jumps .ensures) ∙ not-false _ (jump .if2 .left)) _ _
+    jumped _ _ _ _ _ _ _ (l .i) (l .k) (l .inv w) (turn .loop-test .taken) (sym (jump .before .jumps .ensures) ∙ not-false _ (jump .if2 .left)) _ _
     (c .before .skip .ensures) (c .skip2 .ensures)
 
 ends : tie.Need-returns-2 Inv-loop μ-loop
-ends c w = let l = c .before .loop in sym (walk-ends _ _ _ _ _ _ (l .i) (l .k) (l .inv w) (c .loop-test .left))
+ends c w = let l = c .before .loop in sym (walk-ends _ _ _ _ _ _ _ (l .i) (l .k) (l .inv w) (c .loop-test .left))
 
 pub may-reach-spec : {M : Type 1} → statement M
 may-reach-spec =
