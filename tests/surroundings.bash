@@ -53,6 +53,8 @@ make_scratch() {
     chmod 000 scratch/secret
     ln -s ../loader scratch/link
     ln -s link 'scratch/link of a link'
+    mkdir scratch/bare
+    ln -s "$(command -v bash)" "$(command -v dirname)" "$(command -v readlink)" "$(command -v nm)" scratch/bare
 }
 
 export -f as_nobody unwritable without_rt failing unread

@@ -1,10 +1,22 @@
-// Only the feature `library` links the static library; all else is std alone.
+// Only the features link static libraries; all else is std alone.
 fn main() {
     println!("cargo:rerun-if-changed=build.rs");
-    if std::env::var_os("CARGO_FEATURE_LIBRARY").is_some() {
-        let here = std::env::var("CARGO_MANIFEST_DIR").unwrap_or_else(|_| ".".into());
-        println!("cargo:rustc-link-search=native={here}/../target/staticlib");
-        println!("cargo:rustc-link-lib=static=teldyzhom");
-        println!("cargo:rerun-if-changed={here}/../target/staticlib/libteldyzhom.a");
+    if has("BEFORE") {
+        // ./bench puts both there, alike placed.
+        link("target/before", "teldyzhom");
+        link("target/before", "before");
+    } else if has("LIBRARY") {
+        link("../target/staticlib", "teldyzhom");
     }
+}
+
+fn has(feature: &str) -> bool {
+    std::env::var_os(format!("CARGO_FEATURE_{feature}")).is_some()
+}
+
+fn link(folder: &str, name: &str) {
+    let here = std::env::var("CARGO_MANIFEST_DIR").unwrap_or_else(|_| ".".into());
+    println!("cargo:rustc-link-search=native={here}/{folder}");
+    println!("cargo:rustc-link-lib=static={name}");
+    println!("cargo:rerun-if-changed={here}/{folder}/lib{name}.a");
 }

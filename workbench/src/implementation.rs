@@ -72,8 +72,16 @@ pub fn all() -> Vec<Box<dyn Implementation>> {
         Box::new(Checker),
         Box::new(Tuned),
         #[cfg(feature = "library")]
-        Box::new(crate::library::Library),
+        Box::new(crate::library::LIBRARY),
     ]
+}
+
+/// The library and then the one before, if both are linked.
+pub fn library_and_before() -> Option<Vec<Box<dyn Implementation>>> {
+    #[cfg(feature = "before")]
+    return Some(vec![Box::new(crate::library::LIBRARY), Box::new(crate::library::BEFORE)]);
+    #[cfg(not(feature = "before"))]
+    None
 }
 
 /// The one of that name.

@@ -10,41 +10,63 @@ struct Answer {
     value: u32,
 }
 
-extern "C" {
-    fn teldyzhom_check(pack: *const u8, pack_len: usize, certificate: *const u8, certificate_len: usize) -> u32;
-    fn teldyzhom_list(pack: *const u8, pack_len: usize, list: *mut u8, list_len: usize) -> Answer;
-    fn teldyzhom_arc(
-        pack: *const u8,
-        pack_len: usize,
-        rule: u32,
-        place: u32,
-        other_rule: u32,
-        other_place: u32,
-    ) -> Answer;
+/// One library that is linked: its three functions as include/teldyzhom.h declares them.
+pub struct Library {
+    name: &'static str,
+    check: unsafe extern "C" fn(*const u8, usize, *const u8, usize) -> u32,
+    list: unsafe extern "C" fn(*const u8, usize, *mut u8, usize) -> Answer,
+    arc: unsafe extern "C" fn(*const u8, usize, u32, u32, u32, u32) -> Answer,
 }
 
-pub struct Library;
+/// The library whose functions are linked by names that start so.
+macro_rules! linked {
+    ($name:literal, $prefix:literal) => {{
+        extern "C" {
+            #[link_name = concat!($prefix, "teldyzhom_check")]
+            fn check(pack: *const u8, pack_len: usize, certificate: *const u8, certificate_len: usize) -> u32;
+            #[link_name = concat!($prefix, "teldyzhom_list")]
+            fn list(pack: *const u8, pack_len: usize, list: *mut u8, list_len: usize) -> Answer;
+            #[link_name = concat!($prefix, "teldyzhom_arc")]
+            fn arc(
+                pack: *const u8,
+                pack_len: usize,
+                rule: u32,
+                place: u32,
+                other_rule: u32,
+                other_place: u32,
+            ) -> Answer;
+        }
+        Library { name: $name, check, list, arc }
+    }};
+}
+
+/// The one built from this tree.
+pub const LIBRARY: Library = linked!("library", "");
+
+/// The older one that `./bench --before` renamed.
+#[cfg(feature = "before")]
+pub const BEFORE: Library = linked!("before", "before_");
 
 impl Implementation for Library {
     fn name(&self) -> &'static str {
-        "library"
+        self.name
     }
 
     fn check(&self, pack: &[u8], certificate: &[u8]) -> u32 {
         // Both slices are lent for the call and only read.
-        unsafe { teldyzhom_check(pack.as_ptr(), pack.len(), certificate.as_ptr(), certificate.len()) }
+        unsafe { (self.check)(pack.as_ptr(), pack.len(), certificate.as_ptr(), certificate.len()) }
     }
 
     fn list(&self, pack: &[u8], list: &mut [u8]) -> (u32, u32) {
         // The list is lent mutably for the call; the library writes inside its length.
-        let answer = unsafe { teldyzhom_list(pack.as_ptr(), pack.len(), list.as_mut_ptr(), list.len()) };
+        let answer = unsafe { (self.list)(pack.as_ptr(), pack.len(), list.as_mut_ptr(), list.len()) };
         (answer.number, answer.value)
     }
 
     fn arc(&self, pack: &[u8], question: [u32; 4]) -> (u32, u32) {
         let [rule, place, other_rule, other_place] = question;
         // The slice is lent for the call and only read.
-        let answer = unsafe { teldyzhom_arc(pack.as_ptr(), pack.len(), rule, place, other_rule, other_place) };
+        let answer = unsafe { (self.arc)(pack.as_ptr(), pack.len(), rule, place, other_rule, other_place) };
         (answer.number, answer.value)
     }
 }

@@ -110,6 +110,9 @@ fn bench_and_search_refuse_wrong_arguments() {
         misused(BENCH, &[rounds]);
     }
     misused(BENCH, &["1", "1"]);
+    misused(BENCH, &["--before", "file.a", "1"]);
+    #[cfg(not(feature = "before"))]
+    fails(BENCH, &["--before"], 2);
     let pack = example("division.pack.txt");
     for restarts in ["0", "1000001", "-1", "+1", "x", ""] {
         misused(SEARCH, &[&pack, restarts]);

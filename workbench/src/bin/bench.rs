@@ -3,6 +3,7 @@
 //! Times differ from machine to machine, so no test should look at them: only ratios are printed.
 //! A busy machine spoils ratios too: run it twice and trust only what stays.
 //! `bench [rounds]`: more rounds, steadier ratios (20 by default).
+//! `bench --before [rounds]`: the same rows, of the library in times of an older one that `./bench --before` links.
 
 use std::hint::black_box;
 use std::process::ExitCode;
@@ -10,12 +11,16 @@ use std::time::{Duration, Instant};
 use workbench::checker::{is_defined, judge_pack, pairs};
 use workbench::encode::{certificate_bytes, pack_bytes};
 use workbench::generate::packs::{dense, guided, Base, Size};
-use workbench::implementation::{all, Implementation};
+use workbench::implementation::{all, library_and_before, Implementation};
 use workbench::random::Random;
 use workbench::report::{number, run, say, Arguments, Failure};
 use workbench::slow;
 
-const USAGE: &str = "bench [rounds], 1 to 10000, 20 by default";
+const USAGE: &str =
+    "bench [--before] [rounds], 1 to 10000, 20 by default; ./bench --before FILE.a [rounds] links FILE.a";
+const BEFORE: &str = "--before";
+/// A ratio to the one before that is over this is pointed out.
+const SLOWER: f64 = 1.03;
 const ROUNDS: u64 = 20;
 const MOST_ROUNDS: u64 = 10_000;
 
@@ -37,10 +42,12 @@ type Job<'a> = &'a dyn Fn(&dyn Implementation) -> u32;
 struct Bench {
     implementations: Vec<Box<dyn Implementation>>,
     rounds: u64,
+    /// They are the library and the one before, and only the ratio is shown.
+    before: bool,
 }
 
 fn main() -> ExitCode {
-    run(USAGE, &[], bench)
+    run(USAGE, &[BEFORE], bench)
 }
 
 fn bench(arguments: Arguments) -> Result<(), Failure> {
@@ -49,8 +56,16 @@ fn bench(arguments: Arguments) -> Result<(), Failure> {
         [rounds] => number(rounds, 1, MOST_ROUNDS)?,
         words => return Err(Failure::Usage(format!("{} words; at most one is wanted", words.len()))),
     };
-    let bench = Bench { implementations: all(), rounds };
-    say("time of each in times of the tuned one; at the end the greatest number each answered\n");
+    let before = arguments.has(BEFORE);
+    let implementations = if before {
+        let none = "no older library is linked; ./bench --before FILE.a links one";
+        library_and_before().ok_or_else(|| Failure::CouldNotRun(none.to_string()))?
+    } else {
+        all()
+    };
+    let bench = Bench { implementations, rounds, before };
+    let what = if before { "the library in times of the one before" } else { "each in times of the tuned one" };
+    say(format_args!("time of {what}; at the end the greatest number each answered\n"));
     bench.header("check");
     for workload in workloads() {
         bench.ratios(&workload.name, &|one| check_all(one, &workload));
@@ -63,7 +78,8 @@ fn bench(arguments: Arguments) -> Result<(), Failure> {
     for workload in workloads().iter().take(7) {
         bench.ratios(&workload.name, &|one| ask_all(one, workload));
     }
-    say("\ngrowth of check: time of each in times of its own time one line above\n");
+    let own = if before { "" } else { ": time of each in times of its own time one line above" };
+    say(format_args!("\ngrowth of check{own}\n"));
     bench.growth("pairs in one component", &[127, 255, 511, 1_023, 2_047], pairs_base);
     bench.growth("pairs without weights", &[64, 128, 256, 512], |pairs| slow::few_arcs(pairs / 64));
     bench.growth("components, weights differ", &[27, 54, 109, 218, 437], |count| slow::chains(count, true));
@@ -140,39 +156,53 @@ fn ask_all(one: &dyn Implementation, workload: &Workload) -> u32 {
 
 impl Bench {
     fn header(&self, what: &str) {
-        let names: Vec<String> = self.implementations.iter().map(|one| format!("{:>9}", one.name())).collect();
+        let names = self.implementations.iter().map(|one| one.name()).take(self.shown());
+        let names: Vec<String> = names.map(|name| format!("{name:>9}")).collect();
         let (space, what) = what.split_at(what.len() - what.trim_start().len());
         say(format_args!("{space}{what:<34}{}  answers", names.concat()));
     }
 
-    /// One line: all in times of the tuned one.
-    fn ratios(&self, name: &str, job: Job) {
-        let times = self.measure(job);
-        let tuned = self.implementations.iter().position(|one| one.name() == "tuned").unwrap_or(0);
-        let unit = times[tuned];
-        self.line(name, times.iter().map(|time| Some(time.div_duration_f64(unit))), job);
+    /// The one before is only the unit.
+    fn shown(&self) -> usize {
+        self.implementations.len() - usize::from(self.before)
     }
 
-    /// One line a size, each in times of the line above.
+    /// One line: all in times of the tuned one, or the library in times of the one before.
+    fn ratios(&self, name: &str, job: Job) {
+        let times = self.measure(job);
+        let unit = if self.before { "before" } else { "tuned" };
+        let unit = times[self.implementations.iter().position(|one| one.name() == unit).unwrap_or(0)];
+        self.line(name, times.iter().take(self.shown()).map(|time| Some(time.div_duration_f64(unit))), job);
+    }
+
+    /// One line a size, each in times of the line above, or the library in times of the one before.
     fn growth(&self, name: &str, sizes: &[usize], make: impl Fn(usize) -> Base) {
         self.header(name);
-        let mut before: Vec<Option<Duration>> = vec![None; self.implementations.len()];
+        let mut above: Vec<Option<Duration>> = vec![None; self.implementations.len()];
         for size in sizes {
             let workload = workload(name, [make(*size)]);
             let job: Job = &|one| check_all(one, &workload);
+            if self.before {
+                self.ratios(&size.to_string(), job);
+                continue;
+            }
             let times = self.measure(job);
-            let factors =
-                times.iter().zip(&before).map(|(time, before)| before.map(|before| time.div_duration_f64(before)));
+            let factors = times.iter().zip(&above).map(|(time, above)| above.map(|above| time.div_duration_f64(above)));
             self.line(&size.to_string(), factors, job);
-            before = times.into_iter().map(Some).collect();
+            above = times.into_iter().map(Some).collect();
         }
         say("");
     }
 
     fn line(&self, name: &str, numbers: impl Iterator<Item = Option<f64>>, job: Job) {
-        let numbers: Vec<String> = numbers.map(|n| n.map_or(format!("{:>9}", "-"), |n| format!("{n:>9.2}"))).collect();
+        let numbers: Vec<Option<f64>> = numbers.collect();
+        let slower = self.before && numbers.iter().flatten().any(|n| *n > SLOWER);
+        let mark = if slower { format!("  over {SLOWER}") } else { String::new() };
+        // A hundredth more or less is what the one before is asked for.
+        let places = if self.before { 3 } else { 2 };
+        let numbers = numbers.iter().map(|n| n.map_or(format!("{:>9}", "-"), |n| format!("{n:>9.places$}")));
         let answers: Vec<String> = self.implementations.iter().map(|one| job(one.as_ref()).to_string()).collect();
-        say(format_args!("{name:<34}{}  {}", numbers.concat(), answers.join(" ")));
+        say(format_args!("{name:<34}{}  {}{mark}", numbers.collect::<String>(), answers.join(" ")));
     }
 
     /// The shortest of some rounds, taken in turns so that all meet the same weather.

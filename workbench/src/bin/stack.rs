@@ -15,7 +15,7 @@ use workbench::files::read;
 use workbench::generate::packs::{dense, Base};
 use workbench::generate::{case, Case};
 use workbench::implementation::Implementation;
-use workbench::library::Library;
+use workbench::library::LIBRARY;
 use workbench::random::Random;
 use workbench::report::{self, say, Arguments, Failure};
 use workbench::slow;
@@ -192,15 +192,15 @@ impl Record {
 impl Most {
     fn ask(&mut self, stack: &mut Stack, file: &File) -> Outcome<()> {
         let case = &file.case;
-        let (bytes, number) = stack.measure(|| Library.check(&case.pack, &case.certificate))?;
+        let (bytes, number) = stack.measure(|| LIBRARY.check(&case.pack, &case.certificate))?;
         if let Some(expected) = file.number.filter(|expected| *expected != number) {
             return Err(refused(format!("{}: the check says {number}, not {expected}", file.name)));
         }
         self.check.note(bytes, &file.name);
         let mut list = vec![0; case.room];
-        self.list.note(stack.measure(|| Library.list(&case.pack, &mut list))?.0, &file.name);
+        self.list.note(stack.measure(|| LIBRARY.list(&case.pack, &mut list))?.0, &file.name);
         for question in &case.questions {
-            self.arc.note(stack.measure(|| Library.arc(&case.pack, *question))?.0, &file.name);
+            self.arc.note(stack.measure(|| LIBRARY.arc(&case.pack, *question))?.0, &file.name);
         }
         Ok(())
     }
