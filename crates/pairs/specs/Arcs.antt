@@ -1,4 +1,4 @@
--- Arcs: the edges of an estimate of the dependency graph, coarser than the one that unifies (000, Definition 18).
+-- Arcs: the edges of an estimate of the dependency graph, coarser than the one that unifies (Arts and Giesl, Definition 18).
 use mathlib.Core.Path.{_≡_}
 use mathlib.Core.Bool.{Bool, true, false, _&&_, _||_}
 use Prim.Native.Nat.{ℕ}
