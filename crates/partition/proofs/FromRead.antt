@@ -1,10 +1,10 @@
 -- What a certificate that was read brings: small numbers, and pairs that are pairs of the system.
-use mathlib.Core.Path.{_≡_, sym, ap, subst, _∙_}
+use mathlib.Core.Path.{_≡_, sym, ap, subst}
 use mathlib.Core.Bool.{true}
-use mathlib.Core.List.{List, [], _∷_, List·Memᴰ, List·Memᴰ·head, List·Memᴰ·tail}
-use Prim.Native.Nat.{ℕ, _≤_, _<_}
+use mathlib.Core.List.{List, List·Memᴰ, List·Memᴰ·head, List·Memᴰ·tail}
+use Prim.Native.Nat.{ℕ, _<_}
 use native.Mathlib.Omega.{arith}
-use lib.ListN.{length, getD}
+use lib.ListN.{length}
 use Rattle.rewriting.specs.Terms.{System, rule}
 use Rattle.rewriting.specs.Pairs.{Pair, is-pair}
 use Rattle.rewriting.proofs.Basics.{Each, each-nil, each-cons, each-append, each-at}

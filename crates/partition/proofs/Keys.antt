@@ -1,36 +1,37 @@
 -- The keys of the rules and the lowest component of each root, one rule more, and what they say of arcs back from a pair.
 use mathlib.Core.Path.{_≡_, refl, sym, ap, _∙_}
-use mathlib.Core.Bool.{Bool, true, false, _&&_, cond, and-false}
+use mathlib.Core.Bool.{Bool, true, false, _&&_, and-false}
 use mathlib.Core.List.{List}
-use Prim.Native.Nat.{ℕ, _+_, _*_, _-_, _%_, _≤_, _<_, min}
+use Prim.Native.Nat.{ℕ, _+_, _*_, _-_, _%_, _≤_, _<_}
+use native.Mathlib.Numerals.{add-one}
 use native.Mathlib.Omega.{arith}
 use lib.Dec.{ltb, eqb}
 use lib.ListN.{length, getD, set, length-set}
 use lib.Seq.{getD-set-same, getD-set-other}
-use borrow.Author.Tests.{ltb-true, le-ltb, eqb-true, eqb-false, eq-eqb}
-use Rattle.rewriting.specs.Terms.{System}
-use Rattle.rewriting.specs.Pairs.{Pair}
+use borrow.Author.Tests.{ltb-true, lt-ltb, le-ltb, eqb-true, eqb-false, eq-eqb}
 use Rattle.rewriting.proofs.Basics.{by-test, and-left, and-right}
 use Rattle.rewriting.proofs.Trees.{term-not-list}
+use Rattle.rewriting.proofs.Pairs.{pair-rule}
+use Rattle.terms.specs.Kept.{Term-at}
 use Rattle.terms.proofs.Parsing.{flat-positive}
-use Rattle.pack_reader.specs.Stored.{Stored}
 use Rattle.pairs.specs.Listing.{a-pair}
 use Rattle.pairs.specs.Arcs.{arc}
-use Rattle.pair_finder.specs.Walking.{is-defined, Kept-pack, Arc-asked, Pair-kept}
+use Rattle.pair_finder.specs.Walking.{is-defined, System-kept, Arc-asked}
 use Rattle.pair_finder.proofs.FromStore.{stored-rule, stored-place}
-use Rattle.pair_finder.proofs.Asked.{no-arc}
-use Rattle.partition.specs.Working.{root, back-to, Begun, Keys, Roots}
-use Rattle.partition.proofs.Backward.{no-back-to}
+use Rattle.pair_finder.proofs.Asked.{right-at, no-arc}
+use Rattle.entries.specs.declared.Entry.{Entry}
+use Rattle.partition.specs.Working.{named, root, back-to, Begun, Keys, Roots, Lowered, Back-asked, Back-asked-of}
+use Rattle.partition.proofs.Backward.{back-to-some, no-back-to}
 
 -- the left sides of a pack that is kept begin within the nodes
-pub left-sides : (p : System) (symbols rules : ℕ) (ar ss ns ms : List ℕ) → Stored p symbols rules ar ss ns ms → Kept-pack rules ar ss ns ms → Begun rules ss ns
-left-sides p symbols rules ar ss ns ms s k =
+pub left-sides : {rules : ℕ} {ar ss ns ms : List ℕ} → System-kept rules ar ss ns ms → Begun rules ss ns
+left-sides k =
     record {
-      few = k .laid .few;
-      starts-long = k .laid .starts-long;
+      few = k .arrays .laid .few;
+      starts-long = k .arrays .laid .starts-long;
       within = λ i h.
-          omega
-          (arith, s .rules-at i h .left-kept .within, flat-positive _ (term-not-list p _ (stored-rule p symbols rules ar ss ns ms s h .left-term)));
+          let s = k .stored in
+          omega (arith, s .rules-at i h .left-kept .within, flat-positive _ (term-not-list (k .system) _ (stored-rule _ _ _ _ _ _ _ s h .left-term)));
     }
 
 -- ONE RULE MORE
@@ -55,19 +56,18 @@ module _ (ss ns ls : List ℕ) (s : ℕ) where
             (getD-set-same ks s k 0 f);
       }
 
-  module _ (rs now : List ℕ) (d : Roots s ss ns ls rs) (same : length now ≡ length rs)
-      (lowered : (t : ℕ) → t < length rs → getD now t 0 ≡ cond (eqb (root ss ns s) t) (min (getD ls s 0) (getD rs t 0)) (getD rs t 0)) where
+  module _ (rs now : List ℕ) (d : Roots s ss ns ls rs) (l : Lowered (root ss ns s) (getD ls s 0) rs now) where
     no-higher : (t : ℕ) → t < 64 → getD now t 0 ≤ getD rs t 0
     no-higher t h =
-        rw (lowered t (omega (arith, d .long))) (by-test (eqb (root ss ns s) t) (λ e. rw e (omega arith)) (λ e. rw e (omega arith)))
+        rw (l .lowered t (omega (arith, d .long))) (by-test (eqb (root ss ns s) t) (λ e. rw e (omega arith)) (λ e. rw e (omega arith)))
 
     own-root : root ss ns s < 64 → getD now (root ss ns s) 0 ≤ getD ls s 0
-    own-root h = rw (lowered (root ss ns s) (omega (arith, d .long)), eq-eqb (root ss ns s) (root ss ns s) refl) (omega arith)
+    own-root h = rw (l .lowered (root ss ns s) (omega (arith, d .long)), eq-eqb (root ss ns s) (root ss ns s) refl) (omega arith)
 
     pub more-roots : Roots (s + 1) ss ns ls now
     more-roots =
         record {
-          long = same ∙ d .long;
+          long = l .long ∙ d .long;
           low =
               one-more (λ t. root ss ns t < 64 → getD now (root ss ns t) 0 ≤ getD ls t 0) s
               (λ t g h. omega (arith, no-higher (root ss ns t) h, d .low t g h))
@@ -77,46 +77,100 @@ module _ (ss ns ls : List ℕ) (s : ℕ) where
 -- THE DIFFERENCE of a key and a root's first key, which wraps
 
 module _ (r c own f low : ℕ) (wraps : (r + 65536 * c) % 4294967296 ≡ 65536 * f + low) (byte : c < 256) (small : low < 65536) where
-  pub below : own < 65536 → r < own → low < own
+  below : own < 65536 → r < own → low < own
   below o h = omega arith
 
-  pub not-below : r < 4294967296 → own ≤ r → f ≡ c → own ≤ low
+  not-below : r < 4294967296 → own ≤ r → f ≡ c → own ≤ low
   not-below o h e = omega arith
 
--- FROM A PAIR that is kept
-
--- an arc may be asked of it
-abbrev pub asked-of : (p : System) (q : Pair) (rules : ℕ) (ar ss ns ms : List ℕ) (right s : ℕ) → Pair-kept p q rules ar ss ns ms right → s < rules → Arc-asked ar ss ns ms right s
-asked-of p q rules ar ss ns ms right s k h =
-    record { system = p; symbols = k .symbols; rules = rules; stored = k .stored; pair = q; is = k .is; at-right = k .at-right; other-rule = h }
+-- FROM A PAIR of which arcs back are asked
 
 -- a byte with a flag is a symbol
 defined-small : (ms : List ℕ) (c : ℕ) → is-defined ms c ≡ true → c < 64
 unfolding is-defined
 defined-small ms c h = ltb-true c 64 (and-left _ _ h)
 
-module _ (p : System) (q : Pair) (rules : ℕ) (ar ss ns ms : List ℕ) (right : ℕ) (k : Pair-kept p q rules ar ss ns ms right) where
-  -- the root of its right side is one
+module _ {rules right : ℕ} {ar ss ns ms ks rs : List ℕ} (a : Back-asked rules ar ss ns ms ks rs right) where
+  -- an arc to a rule may be asked of it
+  abbrev pub asked-of : (s : ℕ) → s < rules → Arc-asked ar ss ns ms right s
+  asked-of s h =
+      let k = a .pair-kept in
+      record { system = a .system; symbols = k .symbols; rules = rules; stored = k .stored; pair = a .pair; is = k .is; at-right = k .at-right; other-rule = h }
+
+  -- its own rule is one, so its right side is a term
+  pub right-term : Term-at ar ns right
+  right-term =
+      let k = a .pair-kept in
+      let own : a .pair .at-rule < rules = omega (arith, pair-rule (a .system) (a .pair) (k .is), k .stored .rules-are) in
+      right-at _ _ _ _ _ _ (asked-of (a .pair .at-rule) own)
+
+  -- that has a symbol as its root
   pub root-small : getD ns right 0 < 64
   root-small =
+      let k = a .pair-kept in
+      let q = a .pair in
       let i = q .at-rule in
-      let h = sym (stored-place p (k .symbols) rules ar ss ns ms (k .stored) i (q .place)) ∙ k .is in
+      let h = sym (stored-place _ _ _ _ _ _ _ (k .stored) i (q .place)) ∙ k .is in
       let ends = getD ss (2 * i + 2) 0 - getD ss (2 * i + 1) 0 in
       rw (k .at-right) (defined-small ms _ (and-right (ltb (q .place) ends) _ (and-right (ltb i rules) _ h)))
 
-  module _ (ls : List ℕ) (own : ℕ) where
-    -- no arc leads to a rule with another root
-    pub not-back : (s : ℕ) → s < rules → (root ss ns s ≡ getD ns right 0 → own ≤ getD ls s 0) → (ltb (getD ls s 0) own && arc p q (a-pair s 0)) ≡ false
+  module _ (own : ℕ) where
+    -- an arc leads back to one of the first n rules
+    abbrev back : (n : ℕ) → Bool
+    back n = back-to (a .system) (a .lows) own (a .pair) n
+
+    -- an arc leads back to rule s
+    abbrev back-there : (s : ℕ) → Bool
+    back-there s = ltb (getD (a .lows) s 0) own && arc (a .system) (a .pair) (a-pair s 0)
+
+    pub none-more : (s : ℕ) → back s ≡ false → back-there s ≡ false → back (s + 1) ≡ false
+    unfolding back-to
+    none-more s h k = rw (add-one s, h, k)
+
+    -- none does where no arc leads
+    pub no-arc-there : (s : ℕ) → arc (a .system) (a .pair) (a-pair s 0) ≡ false → back-there s ≡ false
+    no-arc-there s h = ap (λ (b : Bool). ltb (getD (a .lows) s 0) own && b) h ∙ and-false (ltb (getD (a .lows) s 0) own)
+
+    -- nor to a rule with another root
+    not-back : (s : ℕ) → s < rules → (root ss ns s ≡ getD ns right 0 → own ≤ getD (a .lows) s 0) → back-there s ≡ false
     not-back s h low =
         by-test (eqb (root ss ns s) (getD ns right 0))
-        (λ e. ap (λ (b : Bool). b && arc p q (a-pair s 0)) (le-ltb _ _ (low (eqb-true _ _ e))))
-        (λ e.
-        ap (λ (b : Bool). ltb (getD ls s 0) own && b) (no-arc ar ss ns ms right s (asked-of p q rules ar ss ns ms right s k h) (λ z. eqb-false _ _ e (sym z)))
-        ∙ and-false (ltb (getD ls s 0) own))
+        (λ e. ap (λ (b : Bool). b && arc (a .system) (a .pair) (a-pair s 0)) (le-ltb _ _ (low (eqb-true _ _ e))))
+        (λ e. no-arc-there s (no-arc _ _ _ _ _ _ (asked-of s h) (λ z. eqb-false _ _ e (sym z))))
 
     -- none leads back where no rule with its root has a lower component
-    pub none-lower : (rs : List ℕ) → Roots rules ss ns ls rs → own ≤ getD rs (getD ns right 0) 0 → back-to p ls own q rules ≡ false
-    none-lower rs d h =
-        no-back-to p ls own q rules
+    pub none-lower : own ≤ getD rs (getD ns right 0) 0 → back rules ≡ false
+    none-lower h =
+        no-back-to (a .system) (a .lows) own (a .pair) rules
         (λ s l. not-back s l
-        (λ e. let g : getD rs (getD ns right 0) 0 ≤ getD ls s 0 = rw e at (d .low s l (rw e root-small)) in omega arith))
+        (λ e. let g : getD rs (getD ns right 0) 0 ≤ getD (a .lows) s 0 = rw e at (a .keyed .roots-are .low s l (rw e root-small)) in omega arith))
+
+    -- the difference of the rule's key and the root's first one tells
+    module _ (s r : ℕ) (h : s < rules) (wraps : (r + 65536 * getD ns right 0) % 4294967296 ≡ getD ks s 0) where
+      abbrev keys : Keys rules ss ns (a .lows) ks
+      keys = a .keyed .keys-are
+
+      pub arc-back : own < 65536 → r < own → arc (a .system) (a .pair) (a-pair s 0) ≡ true → back rules ≡ true
+      arc-back o l k =
+          back-to-some (a .system) (a .lows) own (a .pair) s rules h
+          (lt-ltb _ _ (below r (getD ns right 0) own _ _ (wraps ∙ keys .key s h) (omega (arith, root-small)) (keys .small s h) o l)) k
+
+      pub no-lower : r < 4294967296 → own ≤ r → back-there s ≡ false
+      no-lower o l = not-back s h (not-below r (getD ns right 0) own _ _ (wraps ∙ keys .key s h) (omega (arith, root-small)) (keys .small s h) o l)
+
+-- FROM THE PAIR OF AN ENTRY: it is kept at its place of its rule's right side
+
+module _ {e : Entry} {rules : ℕ} {ar ss ns ms ks rs : List ℕ} (a : Back-asked-of e rules ar ss ns ms ks rs) where
+  abbrev pub of-entry : Back-asked rules ar ss ns ms ks rs (getD ss (2 * e .rule + 1) 0 + e .place)
+  of-entry =
+      record {
+        arrays = a .kept .arrays;
+        lows = a .lows;
+        keyed = a .keyed;
+        system = a .kept .system;
+        pair = named e;
+        pair-kept = record { symbols = a .kept .symbols; stored = a .kept .stored; is = a .is; at-right = refl };
+      }
+
+  pub entry-rule : e .rule < rules
+  entry-rule = omega (arith, pair-rule (a .kept .system) (named e) (a .is), a .kept .stored .rules-are)

@@ -11,7 +11,7 @@ use lib.Seq.{drop-cons}
 use Rattle.rewriting.proofs.Basics.{by-test}
 use Rattle.entries.specs.declared.Entry.{Entry}
 use Rattle.entries.specs.Entries.{none}
-use Rattle.partition.specs.Working.{slot, lowest, any-taken}
+use Rattle.partition.specs.Working.{slot, lowest, any-taken, Noted-entry}
 use Rattle.partition.proofs.Twice.{taken, untaken}
 
 lowest-small : (s : ℕ) (es : List Entry) → lowest s es ≤ 65535
@@ -48,7 +48,8 @@ regrouped : (own : Bool) (x m l y : ℕ) → min x (cond own (min m l) l) ≡ y 
 regrouped true x m l y g = omega arith
 regrouped false x m l y g = g
 
-module _ (es : List Entry) (lows seen : List ℕ) (i : ℕ) (h : i < length es) (d : Noted es lows seen i) (e : Entry) (is : e ≡ getD es i none) where
+module _ {es : List Entry} {lows seen : List ℕ} {i : ℕ} (h : i < length es) (d : Noted es lows seen i) {e : Entry} (is : e ≡ getD es i none)
+    {lows′ seen′ : List ℕ} {b : Bool} (n : Noted-entry e lows lows′ seen seen′ b) where
   abbrev rest : List Entry
   rest = drop (suc i) es
 
@@ -63,16 +64,15 @@ module _ (es : List Entry) (lows seen : List ℕ) (i : ℕ) (h : i < length es) 
   unfolding any-taken
   taken-here = sym (d .taken-is) ∙ ap (any-taken seen) here
 
-  pub again : (b : Bool) → b ≡ taken seen (slot e) → b ≡ true → any-taken untaken es ≡ true
-  again b was h = taken-here ∙ ap (λ (x : Bool). x || any-taken (set seen (slot e) 1) rest) (sym was ∙ h)
+  pub again : b ≡ true → any-taken untaken es ≡ true
+  again was = taken-here ∙ ap (λ (x : Bool). x || any-taken (set seen (slot e) 1) rest) (sym (n .told) ∙ was)
 
-  pub first : (b : Bool) (lows′ seen′ : List ℕ) → length lows′ ≡ length lows →
-      ((t : ℕ) → t < length lows → getD lows′ t 0 ≡ cond (eqb (e .rule) t) (min (e .component) (getD lows t 0)) (getD lows t 0)) →
-      (b ≡ taken seen (slot e)) × (seen′ ≡ set seen (slot e) 1) → b ≡ false → Noted es lows′ seen′ (i + 1)
-  first b lows′ seen′ l lowered was not-yet =
-      rw (add-one i, was .1)
+  pub first : b ≡ false → Noted es lows′ seen′ (i + 1)
+  first not-yet =
+      let lowered = n .lowered .lowered in
+      rw (add-one i, n .takes)
       (record {
-        lows-long = l ∙ d .lows-long;
+        lows-long = n .lowered .long ∙ d .lows-long;
         small = λ s f.
             let g = d .small s f in
             rw (lowered s (omega (arith, d .lows-long))) (by-test (eqb (e .rule) s) (λ z. rw z (omega arith)) (λ z. rw z g));
@@ -81,10 +81,10 @@ module _ (es : List Entry) (lows seen : List ℕ) (i : ℕ) (h : i < length es) 
             (regrouped (eqb (e .rule) s) (getD lows s 0) (e .component) (lowest s rest) _
             (ap (λ (k : ℕ). min (getD lows s 0) k) (sym (lowest-here s)) ∙ d .lowest-is s f));
         seen-long = length-set seen (slot e) 1 ∙ d .seen-long;
-        taken-is = sym (taken-here ∙ ap (λ (x : Bool). x || any-taken (set seen (slot e) 1) rest) (sym (was .0) ∙ not-yet));
+        taken-is = sym (taken-here ∙ ap (λ (x : Bool). x || any-taken (set seen (slot e) 1) rest) (sym (n .told) ∙ not-yet));
       })
 
-module _ (es : List Entry) (lows seen : List ℕ) (i : ℕ) (h : length es ≤ i) (d : Noted es lows seen i) where
+module _ {es : List Entry} {lows seen : List ℕ} {i : ℕ} (h : length es ≤ i) (d : Noted es lows seen i) where
   none-left : drop i es ≡ []
   none-left = drop-of-length-le es {i = i} h
 

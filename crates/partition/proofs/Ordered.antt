@@ -28,7 +28,10 @@ use Rattle.partition.proofs.Named.{Small, entries-from, entries-are, al
 use Rattle.partition.proofs.Backward.{back-means, one-component}
 use Rattle.partition.proofs.FromRead.{read-are, read-few, read-pairs, read-small}
 
-module _ (p : System) (ds : List ℕ) (components rules : ℕ) (ar ss ns ms : List ℕ) (j : Judgeable p ds components rules ar ss ns ms) where
+module _ {ds : List ℕ} {components rules : ℕ} {ar ss ns ms : List ℕ} (j : Judgeable ds components rules ar ss ns ms) where
+  abbrev p : System
+  p = j .kept .system
+
   abbrev cs : List Component
   cs = j .all
 
@@ -38,7 +41,7 @@ module _ (p : System) (ds : List ℕ) (components rules : ℕ) (ar ss ns ms : Li
 
   small : Each Small (all-pairs cs)
   unfolding All-small
-  small = each-by (a-pair 0 0) (all-pairs cs) (read-small p ds cs (j .read) (j .stored .good))
+  small = each-by (a-pair 0 0) (all-pairs cs) (read-small p ds cs (j .read) (j .kept .stored .good))
 
   are : es ≡ entries-from 0 cs
   are = ap (entries-of 0) (certificate-read p ds cs (j .read)) ∙ entries-are 0 0 cs small
@@ -59,7 +62,7 @@ module _ (p : System) (ds : List ℕ) (components rules : ℕ) (ar ss ns ms : Li
   once-is : each-once (pairs p) (all-pairs cs) ≡ (eqb (length es) (length (first-pairs ss ns ms rules)) && not (any-taken untaken es))
   once-is =
       let twice : any-taken untaken es ≡ doubled (all-pairs cs) = twice-means es (rw name small) ∙ ap doubled name in
-      let there : length (first-pairs ss ns ms rules) ≡ length (pairs p) = ap length (stored-pairs p (j .symbols) rules ar ss ns ms (j .stored)) in
+      let there : length (first-pairs ss ns ms rules) ≡ length (pairs p) = ap length (stored-pairs _ _ _ _ _ _ _ (j .kept .stored)) in
       counted-once p (all-pairs cs) (read-pairs p ds cs (j .read)) ∙ sym (rw (as-many, there, twice) refl)
 
   pub eight-counted : (length es ≡ length (first-pairs ss ns ms rules) → ⊥) → ordered p cs ≡ 8
@@ -88,8 +91,9 @@ module _ (p : System) (ds : List ℕ) (components rules : ℕ) (ar ss ns ms : Li
 
     pub by-arcs : (ls : List ℕ) → ((s : ℕ) → s < 64 → getD ls s 0 ≡ lowest s es) → (b : Bool) → any-back p ls rules es ≡ b → ordered p cs ≡ cond b 9 0
     by-arcs ls lows b h =
-        let g = j .stored .good .rule-count in
+        let s = j .kept .stored in
+        let g = s .good .rule-count in
         let e =
-        back-means p cs ls rules (read-few p ds cs (j .read)) (λ s k. lows s (omega (arith, j .stored .rules-are)) ∙ ap (lowest s) are)
-        (λ i k q m. omega (arith, pair-rule p q (read-are p ds cs (j .read) i k q m), j .stored .rules-are)) in
+        back-means p cs ls rules (read-few p ds cs (j .read)) (λ s k. lows s (omega (arith, j .kept .stored .rules-are)) ∙ ap (lowest s) are)
+        (λ i k q m. omega (arith, pair-rule p q (read-are p ds cs (j .read) i k q m), j .kept .stored .rules-are)) in
         then-arcs ∙ ap (λ (b : Bool). cond b 9 0) (sym e ∙ ap (any-back p ls rules) (sym are) ∙ h)

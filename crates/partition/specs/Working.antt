@@ -11,11 +11,13 @@ use Rattle.rewriting.specs.Pairs.{Pair, is-pair}
 use Rattle.records.specs.declared.Answer.{Answer}
 use Rattle.records.specs.Outcomes.{passed, refusal}
 use Rattle.records.specs.Answers.{answer-outcome}
-use Rattle.pack_reader.specs.Stored.{Stored}
+use Rattle.records.specs.Files.{Whole}
+use Rattle.packs.specs.PackReading.{most-rules}
+use Rattle.pair_finder.specs.Walking.{Kept-pack, System-kept, Pair-kept}
 use Rattle.pairs.specs.Listing.{a-pair, pairs, count-pair}
 use Rattle.pairs.specs.Arcs.{arc}
 use Rattle.certificates.specs.Components.{Component}
-use Rattle.certificates.specs.CertificateReading.{read-certificate}
+use Rattle.certificates.specs.CertificateReading.{most-certificate-bytes, read-certificate}
 use Rattle.judging.specs.Judges.{plain}
 use Rattle.judging.specs.Judge.{all-pairs, each-once, back-arc}
 use Rattle.entries.specs.declared.Entry.{Entry}
@@ -95,12 +97,47 @@ pub record Keyed (rules : ℕ) (starts nodes lows keys roots : List ℕ) : Type 
 unfoldable pub Names-pairs : System → List Entry → Type 0
 Names-pairs p es = (k : ℕ) → k < length es → is-pair p (named (getD es k none)) ≡ true
 
+-- THE CONTRACTS: what each function is asked, and what it answers
+
+-- entry s is lowered to a number, and no other entry changes
+pub record Lowered (s number : ℕ) (before after : List ℕ) : Type 0 where
+  pub long : length after ≡ length before
+  pub lowered : (t : ℕ) → t < length before → getD after t 0 ≡ cond (eqb s t) (min number (getD before t 0)) (getD before t 0)
+
+-- what `note` answers and leaves: the entry's rule is lowered, its slot taken, and r says whether it was taken before
+pub record Noted-entry (e : Entry) (lows lows-after seen seen-after : List ℕ) (r : Bool) : Type 0 where
+  pub lowered : Lowered (e .rule) (e .component) lows lows-after
+  pub told : r ≡ ltb 0 (getD seen (slot e) 0)
+  pub takes : seen-after ≡ set seen (slot e) 1
+
+-- the rules' roots and lowest components are to be put into `room`
+pub record Keys-asked (rules : ℕ) (starts nodes lows room : List ℕ) : Type 0 where
+  pub begun : Begun rules starts nodes
+  pub lows-long : length lows ≡ most-rules
+  pub room-long : length room ≡ 64
+
+-- arcs back are asked for from the pair whose right side is kept at `right`
+pub record Back-asked (rules : ℕ) (arities starts nodes flags keys roots : List ℕ) (right : ℕ) : Type 0 where
+  pub arrays : Kept-pack rules arities starts nodes flags
+  pub lows : List ℕ
+  pub keyed : Keyed rules starts nodes lows keys roots
+  pub system : System
+  pub pair : Pair
+  pub pair-kept : Pair-kept system pair rules arities starts nodes flags right
+
+-- the same from the pair of an entry
+pub record Back-asked-of (e : Entry) (rules : ℕ) (arities starts nodes flags keys roots : List ℕ) : Type 0 where
+  pub kept : System-kept rules arities starts nodes flags
+  pub lows : List ℕ
+  pub keyed : Keyed rules starts nodes lows keys roots
+  pub is : is-pair (kept .system) (named e) ≡ true
+
 -- a certificate that was read for a pack that is kept
-pub record Judgeable (p : System) (certificate : List ℕ) (components rules : ℕ) (arities starts nodes flags : List ℕ) : Type 0 where
-  pub symbols : ℕ
-  pub stored : Stored p symbols rules arities starts nodes flags
+pub record Judgeable (certificate : List ℕ) (components rules : ℕ) (arities starts nodes flags : List ℕ) : Type 0 where
+  pub file : Whole most-certificate-bytes certificate
+  pub kept : System-kept rules arities starts nodes flags
   pub all : List Component
-  pub read : read-certificate p certificate ≡ passed all
+  pub read : read-certificate (kept .system) certificate ≡ passed all
   pub counted : components ≡ length all
 
 -- 8, 9, or neither

@@ -6,16 +6,9 @@ use records::MOST_PAIRS;
 use records::Refusal;
 use terms::MOST_SYMBOLS;
 ghost use mathlib.Core.Path.{_≡_};
-ghost use mathlib.Core.Bool.{true, cond};
-ghost use mathlib.Core.List.{List};
-ghost use Prim.Native.Nat.{ℕ, _+_, _*_, _%_, _≤_, _<_, min};
-ghost use lib.Dec.{ltb, eqb};
-ghost use lib.ListN.{length, getD, set};
-ghost use Rattle.rewriting.specs.Terms.{System};
-ghost use Rattle.rewriting.specs.Pairs.{Pair, is-pair};
-ghost use Rattle.pack_reader.specs.Stored.{Stored};
-ghost use Rattle.pair_finder.specs.Walking.{Kept-pack, Pair-kept};
-ghost use Rattle.partition.specs.Working.{named, slot, back-to, back-at, Begun, Keys, Roots, Keyed, Judgeable, Ordered-as};
+ghost use Prim.Native.Nat.{_<_};
+ghost use lib.ListN.{length};
+ghost use Rattle.partition.specs.Working.{slot, back-to, back-at, Keys, Roots, Lowered, Noted-entry, Keys-asked, Back-asked, Back-asked-of, Judgeable, Ordered-as};
 
 // A right side has at most so many places.
 const PLACES: usize = 32;
@@ -25,8 +18,7 @@ const NO_COMPONENT: u16 = 65535;
 
 // Lowers entry s to this component.
 fn lower(lows: &mut [u16], s: usize, number: u16)
-    ensures length { λ _. ⌜ length (now (lows .exit)) ≡ length (now (lows .entry)) ⌝ }
-    ensures lowered { λ _. ⌜ ((t : ℕ) → t < length (now (lows .entry)) → getD (now (lows .exit)) t 0 ≡ cond (eqb s t) (min number (getD (now (lows .entry)) t 0)) (getD (now (lows .entry)) t 0)) ⌝ }
+    ensures { λ _. ⌜ Lowered s number (now (lows .entry)) (now (lows .exit)) ⌝ }
 {
     if lows.len() <= s {
         return;
@@ -39,9 +31,7 @@ fn lower(lows: &mut [u16], s: usize, number: u16)
 // Lowers the rule's lowest component to the entry's and takes the pair's slot. Says whether it was taken before.
 fn note(e: Entry, lows: &mut [u16], seen: &mut [u8]) -> bool
     requires { ⌜ slot e < length (now seen) ⌝ }
-    ensures length { λ _. ⌜ length (now (lows .exit)) ≡ length (now (lows .entry)) ⌝ }
-    ensures lowered { λ _. ⌜ ((t : ℕ) → t < length (now (lows .entry)) → getD (now (lows .exit)) t 0 ≡ cond (eqb (e .rule) t) (min (e .component) (getD (now (lows .entry)) t 0)) (getD (now (lows .entry)) t 0)) ⌝ }
-    ensures takes { λ r. ⌜ (r ≡ ltb 0 (getD (now (seen .entry)) (slot e) 0)) × (now (seen .exit) ≡ set (now (seen .entry)) (slot e) 1) ⌝ }
+    ensures { λ r. ⌜ Noted-entry e (now (lows .entry)) (now (lows .exit)) (now (seen .entry)) (now (seen .exit)) r ⌝ }
 {
     lower(lows, e.rule as usize, e.component);
     let slot = PLACES * (e.rule as usize) + e.place as usize;
@@ -52,7 +42,7 @@ fn note(e: Entry, lows: &mut [u16], seen: &mut [u8]) -> bool
 
 // The root of each rule's left side and the rule's lowest component, as one number.
 fn keep_keys(starts: &[u16], nodes: &[u8], rules: usize, lows: &[u16], keys: &mut [u32])
-    requires { ⌜ Begun rules (now starts) (now nodes) × (length (now lows) ≡ 64) × (length (now keys) ≡ 64) ⌝ }
+    requires { ⌜ Keys-asked rules (now starts) (now nodes) (now lows) (now keys) ⌝ }
     ensures { λ _. ⌜ Keys rules (now (starts .entry)) (now (nodes .entry)) (now (lows .entry)) (now (keys .exit)) ⌝ }
 {
     let mut s = 0;
@@ -65,7 +55,7 @@ fn keep_keys(starts: &[u16], nodes: &[u8], rules: usize, lows: &[u16], keys: &mu
 
 // The lowest component of the rules with each root.
 fn lowest_of_roots(starts: &[u16], nodes: &[u8], rules: usize, lows: &[u16], roots: &mut [u16])
-    requires { ⌜ Begun rules (now starts) (now nodes) × (length (now lows) ≡ 64) × (length (now roots) ≡ 64) ⌝ }
+    requires { ⌜ Keys-asked rules (now starts) (now nodes) (now lows) (now roots) ⌝ }
     ensures { λ _. ⌜ Roots rules (now (starts .entry)) (now (nodes .entry)) (now (lows .entry)) (now (roots .exit)) ⌝ }
 {
     let mut s = 0;
@@ -88,8 +78,8 @@ fn back_from(
     right: usize,
     own: u16,
 ) -> bool
-    requires { ⌜ Kept-pack rules (now arities) (now starts) (now nodes) (now defined) × ((lows : List ℕ) × Keyed rules (now starts) (now nodes) lows (now keys) (now roots)) × ((p : System) × (q : Pair) × Pair-kept p q rules (now arities) (now starts) (now nodes) (now defined) right) ⌝ }
-    ensures { λ r. ⌜ ((p : System) (q : Pair) (lows : List ℕ) → Pair-kept p q rules (now (arities .entry)) (now (starts .entry)) (now (nodes .entry)) (now (defined .entry)) right → Keyed rules (now (starts .entry)) (now (nodes .entry)) lows (now (keys .entry)) (now (roots .entry)) → r ≡ back-to p lows own q rules) ⌝ }
+    requires { ⌜ Back-asked rules (now arities) (now starts) (now nodes) (now defined) (now keys) (now roots) right ⌝ }
+    ensures { λ r. ⌜ ((a : Back-asked rules (now (arities .entry)) (now (starts .entry)) (now (nodes .entry)) (now (defined .entry)) (now (keys .entry)) (now (roots .entry)) right) → r ≡ back-to (a .system) (a .lows) own (a .pair) rules) ⌝ }
 {
     let c = nodes[right];
     // No rule with this root has a lower component.
@@ -122,8 +112,8 @@ fn back_from_entry(
     keys: &[u32],
     roots: &[u16],
 ) -> bool
-    requires { ⌜ Kept-pack rules (now arities) (now starts) (now nodes) (now defined) × ((lows : List ℕ) × Keyed rules (now starts) (now nodes) lows (now keys) (now roots)) × ((p : System) × (symbols : ℕ) × Stored p symbols rules (now arities) (now starts) (now nodes) (now defined) × (is-pair p (named e) ≡ true)) ⌝ }
-    ensures { λ r. ⌜ ((p : System) (symbols : ℕ) (lows : List ℕ) → Stored p symbols rules (now (arities .entry)) (now (starts .entry)) (now (nodes .entry)) (now (defined .entry)) → is-pair p (named e) ≡ true → Keyed rules (now (starts .entry)) (now (nodes .entry)) lows (now (keys .entry)) (now (roots .entry)) → r ≡ back-at p lows rules e) ⌝ }
+    requires { ⌜ Back-asked-of e rules (now arities) (now starts) (now nodes) (now defined) (now keys) (now roots) ⌝ }
+    ensures { λ r. ⌜ ((a : Back-asked-of e rules (now (arities .entry)) (now (starts .entry)) (now (nodes .entry)) (now (defined .entry)) (now (keys .entry)) (now (roots .entry))) → r ≡ back-at (a .kept .system) (a .lows) rules e) ⌝ }
 {
     let right = starts[2 * (e.rule as usize) + 1] as usize + e.place as usize;
     back_from(
@@ -149,8 +139,8 @@ pub fn judge(
     nodes: &[u8],
     defined: &[u8],
 ) -> Answer
-    requires { ⌜ (length (now certificate) % 8 ≡ 0) × (length (now certificate) ≤ 24576) × Kept-pack rules (now arities) (now starts) (now nodes) (now defined) × ((p : System) × Judgeable p (now certificate) components rules (now arities) (now starts) (now nodes) (now defined)) ⌝ }
-    ensures { λ r. ⌜ ((p : System) (j : Judgeable p (now (certificate .entry)) components rules (now (arities .entry)) (now (starts .entry)) (now (nodes .entry)) (now (defined .entry))) → Ordered-as p (j .all) r) ⌝ }
+    requires { ⌜ Judgeable (now certificate) components rules (now arities) (now starts) (now nodes) (now defined) ⌝ }
+    ensures { λ r. ⌜ ((j : Judgeable (now (certificate .entry)) components rules (now (arities .entry)) (now (starts .entry)) (now (nodes .entry)) (now (defined .entry))) → Ordered-as (j .kept .system) (j .all) r) ⌝ }
 {
     let store = entries::keep(certificate);
     let n = store.count;

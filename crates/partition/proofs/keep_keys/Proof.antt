@@ -15,10 +15,10 @@ abbrev μ-loop : tie.MeasureT-loop
 μ-loop starts nodes rules lows keys₀ s₀ keys s = rules - s
 
 loop-holds : tie.Need-loop-holds Inv-loop μ-loop
-loop-holds c = (omega arith, record { long = c .pre .2; small = λ s h. absurd (omega arith); key = λ s h. absurd (omega arith) })
+loop-holds c = (omega arith, record { long = c .pre .room-long; small = λ s h. absurd (omega arith); key = λ s h. absurd (omega arith) })
 
 within-nodes : tie.Need-shared-slice-read-keys Inv-loop μ-loop
-within-nodes c = let turn = c .before .before in turn .before .before .pre .0 .within (turn .before .loop .s) (turn .loop-test .taken)
+within-nodes c = let turn = c .before .before in turn .before .before .pre .begun .within (turn .before .loop .s) (turn .loop-test .taken)
 
 -- the byte read is below 256
 byte-fits : tie.Need-cast-keys Inv-loop μ-loop
@@ -44,7 +44,7 @@ again c =
     let l = c .before .before .before .before .loop in
     let start = c .before .before .before .before .before in
     let low = c .shared-slice-known3 .given (l .s) in
-    (omega arith, more-keys _ _ (start .args .lows .now) (l .s) (l .keys) (l .inv .1) (omega (arith, start .pre .0 .few)) (omega arith))
+    (omega arith, more-keys _ _ (start .args .lows .now) (l .s) (l .keys) (l .inv .1) (omega (arith, start .pre .begun .few)) (omega arith))
 
 returns : tie.Need-returns Inv-loop μ-loop
 returns c =
@@ -59,21 +59,21 @@ keep-keys-spec =
     Inv-loop
     μ-loop
     loop-holds
-    (λ c. omega (arith, c .before .before .pre .0 .few))
-    (λ c. omega (arith, c .before .before .pre .0 .few))
-    (λ c. omega (arith, c .before .before .before .pre .0 .few, c .before .before .before .pre .0 .starts-long))
+    (λ c. omega (arith, c .before .before .pre .begun .few))
+    (λ c. omega (arith, c .before .before .pre .begun .few))
+    (λ c. omega (arith, c .before .before .before .pre .begun .few, c .before .before .before .pre .begun .starts-long))
     (λ c. omega (arith, c .shared-slice-known .given (2 * c .before .before .loop .s)))
     within-nodes
     byte-fits
     times-fits
-    (λ c. omega (arith, c .before .before .before .before .pre .0 .few))
-    (λ c. omega (arith, c .before .before .before .before .before .pre .0 .few, c .before .before .before .before .before .pre .1))
+    (λ c. omega (arith, c .before .before .before .before .pre .begun .few))
+    (λ c. omega (arith, c .before .before .before .before .before .pre .begun .few, c .before .before .before .before .before .pre .lows-long))
     (λ c. omega (arith, c .shared-slice-known3 .given (c .before .before .before .before .loop .s)))
     sum-fits
-    (λ c. omega (arith, c .before .before .before .before .before .pre .0 .few))
-    (λ c. omega (arith, c .before .before .before .before .before .pre .0 .few, c .before .before .before .before .loop .inv .1 .long))
+    (λ c. omega (arith, c .before .before .before .before .before .pre .begun .few))
+    (λ c. omega (arith, c .before .before .before .before .before .pre .begun .few, c .before .before .before .before .loop .inv .1 .long))
     (λ c. omega arith)
     (λ c. omega arith)
     again
-    (λ c. c .before .loop .inv .1 .long ∙ sym (c .before .before .pre .2))
+    (λ c. c .before .loop .inv .1 .long ∙ sym (c .before .before .pre .room-long))
     returns)

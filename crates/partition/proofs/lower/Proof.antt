@@ -30,15 +30,15 @@ module _ (ls : List ℕ) (s n t : ℕ) where
   kept k = by-test (eqb s t) (λ e. let z : s ≡ t = eqb-true s t e in let l : getD ls t 0 ≤ n = rw (← z) k in rw e (omega arith)) (λ e. rw e)
 
 returns : tie.Need-returns
-returns c = let a = c .before .args in (refl, λ t h. outside (a .lows .now) (a .s) (a .number) t (c .if1 .taken) h)
+returns c = let a = c .before .args in record { long = refl; lowered = λ t h. outside (a .lows .now) (a .s) (a .number) t (c .if1 .taken) h }
 
 returns-2 : tie.Need-returns-2
 returns-2 c =
     let a = c .before .before .before .args in
-    (simp length-set, λ t h. lowered (a .lows .now) (a .s) (a .number) t (omega arith) (c .if2 .taken))
+    record { long = simp length-set; lowered = λ t h. lowered (a .lows .now) (a .s) (a .number) t (omega arith) (c .if2 .taken) }
 
 returns-3 : tie.Need-returns-3
-returns-3 c = let a = c .before .before .before .args in (refl, λ t h. kept (a .lows .now) (a .s) (a .number) t (c .if2 .left))
+returns-3 c = let a = c .before .before .before .args in record { long = refl; lowered = λ t h. kept (a .lows .now) (a .s) (a .number) t (c .if2 .left) }
 
 pub lower-spec : {M : Type 1} → statement M
 lower-spec =

@@ -16,12 +16,12 @@ abbrev μ-loop : tie.MeasureT-loop
 μ-loop starts nodes rules lows roots₀ s₀ roots s = rules - s
 
 loop-holds : tie.Need-loop-holds Inv-loop μ-loop
-loop-holds c = (omega arith, record { long = c .before .before .before .before .pre .2; low = λ s h. absurd (omega arith) })
+loop-holds c = (omega arith, record { long = c .before .before .before .before .pre .room-long; low = λ s h. absurd (omega arith) })
 
 within-nodes : tie.Need-shared-slice-read-lower Inv-loop μ-loop
 within-nodes c =
     let turn = c .before .before .before in
-    turn .before .before .before .before .before .before .pre .0 .within (turn .before .loop .s) (turn .loop-test .taken)
+    turn .before .before .before .before .before .before .pre .begun .within (turn .before .loop .s) (turn .loop-test .taken)
 
 -- the byte read is below 256
 byte-fits : tie.Need-cast-lower Inv-loop μ-loop
@@ -34,8 +34,7 @@ again : tie.Need-loop-again Inv-loop μ-loop
 again c =
     let l = c .before .before .before .before .before .before .before .before .loop in
     let a = c .before .before .before .before .before .before .before .before .before .before .before .before .before .args in
-    let lowered = c .before .before .lower .ensures in
-    (omega arith, more-roots (a .starts .now) (a .nodes .now) (a .lows .now) (l .s) (l .roots) _ (l .inv .1) (lowered .0) (lowered .1))
+    (omega arith, more-roots (a .starts .now) (a .nodes .now) (a .lows .now) (l .s) (l .roots) _ (l .inv .1) (c .before .before .lower .ensures))
 
 returns : tie.Need-returns Inv-loop μ-loop
 returns c =
@@ -50,17 +49,17 @@ lowest-of-roots-spec =
     Inv-loop
     μ-loop
     loop-holds
-    (λ c. omega (arith, c .before .before .before .before .before .before .pre .0 .few))
-    (λ c. omega (arith, c .before .before .before .before .before .before .pre .0 .few))
-    (λ c. omega (arith, c .before .before .before .before .before .before .before .pre .0 .few, c .before .before .before .before .before .before .before .pre .0 .starts-long))
+    (λ c. omega (arith, c .before .before .before .before .before .before .pre .begun .few))
+    (λ c. omega (arith, c .before .before .before .before .before .before .pre .begun .few))
+    (λ c. omega (arith, c .before .before .before .before .before .before .before .pre .begun .few, c .before .before .before .before .before .before .before .pre .begun .starts-long))
     (λ c. omega (arith, c .shared-slice-known4 .given (2 * c .before .before .loop .s)))
     within-nodes
     byte-fits
-    (λ c. omega (arith, c .before .before .before .before .before .before .before .before .before .pre .0 .few))
-    (λ c. omega (arith, c .before .before .before .before .before .before .before .before .before .before .pre .0 .few, c .before .before .before .before .before .before .before .before .before .before .pre .1))
+    (λ c. omega (arith, c .before .before .before .before .before .before .before .before .before .pre .begun .few))
+    (λ c. omega (arith, c .before .before .before .before .before .before .before .before .before .before .pre .begun .few, c .before .before .before .before .before .before .before .before .before .before .pre .lows-long))
     (λ c κs. search needs)
-    (λ c. omega (arith, c .before .before .before .before .before .before .before .before .before .before .before .before .before .pre .0 .few))
+    (λ c. omega (arith, c .before .before .before .before .before .before .before .before .before .before .before .before .before .pre .begun .few))
     (λ c. omega arith)
     again
-    (λ c. c .before .loop .inv .1 .long ∙ sym (c .before .before .before .before .before .before .pre .2))
+    (λ c. c .before .loop .inv .1 .long ∙ sym (c .before .before .before .before .before .before .pre .room-long))
     returns)
