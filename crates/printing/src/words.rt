@@ -1,4 +1,4 @@
-// Document 01's words for each number, on standard error.
+// The documents' words for each number, on standard error.
 use libc::STDERR_FILENO;
 use records::Refusal;
 
@@ -29,5 +29,25 @@ pub fn tell(x: Refusal) -> bool {
         Refusal::RuleRises => say(b"rule rises: a rule's left is not at least its right\n"),
         Refusal::PairStays => say(b"pair stays: a pair's left is not greater than its right\n"),
         Refusal::ShortList => say(b"short list: the lent list cannot hold all pairs\n"),
+        Refusal::BadText => say(b"bad text: a text is outside the grammar or too long\n"),
+        Refusal::TextLimits => say(
+            b"text limits: a name has two arities, or a count of the text is over its limit\n",
+        ),
+        Refusal::NoneLeaves => say(b"none leaves: no pair leaves under a weighting\n"),
+        Refusal::LostArgument => say(
+            b"lost argument: an argument weight is 0 where each is to be at least 1\n",
+        ),
+        Refusal::RuleStays => say(b"rule stays: a rule's left is not greater than its right\n"),
+        Refusal::Full => say(b"full: the next term passes 512 nodes or the buffer\n"),
+        Refusal::WrongContinuation => say(
+            b"wrong continuation: the symbols do not begin with the old ones, or the run did not end spent\n",
+        ),
+        Refusal::EndsDiffer => say(
+            b"ends differ: the two sides of a critical pair finish at different terms\n",
+        ),
+        Refusal::SideSpent => say(
+            b"side spent: a side of a critical pair spends its allowance of steps\n",
+        ),
+        Refusal::NoSuchRule => say(b"no such rule: the pack has no rule of this number\n"),
     }
 }

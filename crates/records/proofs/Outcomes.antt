@@ -8,7 +8,7 @@ use native.Mathlib.Omega.{arith}
 use lib.Dec.{leb}
 use borrow.Author.Tests.{leb-true, le-leb}
 use Rattle.records.specs.declared.Refusal.{Refusal}
-use Rattle.records.specs.declared.Refusal.the-variants.{CutFile, StrayRecord, OutOfRange, BrokenSide, BareLeft, LooseVariable, NoSuchPair, PairCount, BackArc, SelfArc, Heavy, RuleRises, PairStays, ShortList}
+use Rattle.records.specs.declared.Refusal.the-variants.{CutFile, StrayRecord, OutOfRange, BrokenSide, BareLeft, LooseVariable, NoSuchPair, PairCount, BackArc, SelfArc, Heavy, RuleRises, PairStays, ShortList, BadText, TextLimits, NoneLeaves, LostArgument, RuleStays, Full, WrongContinuation, EndsDiffer, SideSpent, NoSuchRule}
 use Rattle.records.specs.Answers.{number-of}
 use Rattle.records.specs.Outcomes.{Outcome, refused, passed, after, refusal}
 
@@ -97,3 +97,13 @@ number-some Heavy = omega arith
 number-some RuleRises = omega arith
 number-some PairStays = omega arith
 number-some ShortList = omega arith
+number-some BadText = omega arith
+number-some TextLimits = omega arith
+number-some NoneLeaves = omega arith
+number-some LostArgument = omega arith
+number-some RuleStays = omega arith
+number-some Full = omega arith
+number-some WrongContinuation = omega arith
+number-some EndsDiffer = omega arith
+number-some SideSpent = omega arith
+number-some NoSuchRule = omega arith

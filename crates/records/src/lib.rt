@@ -27,7 +27,7 @@ pub struct Record {
     pub c: u16,
 }
 
-// Document 01's refusals 1 to 14, in its order.
+// Document 01's refusals 1 to 14 in its order, and document 02's, 15 to 24.
 pub enum Refusal {
     CutFile,
     StrayRecord,
@@ -43,6 +43,16 @@ pub enum Refusal {
     RuleRises,
     PairStays,
     ShortList,
+    BadText,
+    TextLimits,
+    NoneLeaves,
+    LostArgument,
+    RuleStays,
+    Full,
+    WrongContinuation,
+    EndsDiffer,
+    SideSpent,
+    NoSuchRule,
 }
 
 // A number to go on with, or a refusal.
@@ -76,6 +86,16 @@ pub fn number(x: Refusal) -> u32
         Refusal::RuleRises => 12,
         Refusal::PairStays => 13,
         Refusal::ShortList => 14,
+        Refusal::BadText => 15,
+        Refusal::TextLimits => 16,
+        Refusal::NoneLeaves => 17,
+        Refusal::LostArgument => 18,
+        Refusal::RuleStays => 19,
+        Refusal::Full => 20,
+        Refusal::WrongContinuation => 21,
+        Refusal::EndsDiffer => 22,
+        Refusal::SideSpent => 23,
+        Refusal::NoSuchRule => 24,
     }
 }
 

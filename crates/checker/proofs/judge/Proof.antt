@@ -4,14 +4,16 @@ use mathlib.Core.Bool.{Bool, true, false, cond}
 use mathlib.Core.List.{List, []}
 use Prim.Native.Nat.{ℕ}
 use lib.Dec.{eqb}
+use native.Mathlib.Omega.{arith}
 use borrow.Author.Needs.{needs}
+use borrow.Author.Tests.{ne-eqb}
 use Rattle.rewriting.specs.Terms.{System}
 use Rattle.records.specs.declared.Answer.{Answer}
 use Rattle.records.specs.declared.Answer.the-variants.{Passed, Refused}
 use Rattle.records.specs.declared.Refusal.{Refusal}
-use Rattle.records.specs.declared.Refusal.the-variants.{CutFile, StrayRecord, OutOfRange, BrokenSide, BareLeft, LooseVariable, NoSuchPair, PairCount, BackArc, SelfArc, Heavy, RuleRises, PairStays, ShortList}
 use Rattle.records.specs.Outcomes.{refusal}
 use Rattle.records.specs.Answers.{number-of, answer-outcome}
+use Rattle.records.proofs.Outcomes.{number-some}
 use Rattle.pairs.specs.Listing.{pairs}
 use Rattle.certificates.specs.Components.{Component}
 use Rattle.judging.specs.Judges.{plain}
@@ -34,20 +36,7 @@ unfolding judged ordered
 judged-then p cs = either-way (each-once (pairs p) (all-pairs cs)) (back-arc (plain p) [] cs) (components-refusal p (plain p) cs)
 
 some-number : (x : Refusal) → eqb (number-of x) 0 ≡ false
-some-number CutFile = refl
-some-number StrayRecord = refl
-some-number OutOfRange = refl
-some-number BrokenSide = refl
-some-number BareLeft = refl
-some-number LooseVariable = refl
-some-number NoSuchPair = refl
-some-number PairCount = refl
-some-number BackArc = refl
-some-number SelfArc = refl
-some-number Heavy = refl
-some-number RuleRises = refl
-some-number PairStays = refl
-some-number ShortList = refl
+some-number x = ne-eqb (number-of x) 0 (λ z. omega (arith, number-some x))
 
 refused-stays : (p : System) (cs : List Component) (r : Answer) (x : Refusal) → r ≡ Refused x → Ordered-as p cs r → judged p (plain p) cs ≡ number-of x
 unfolding Ordered-as
