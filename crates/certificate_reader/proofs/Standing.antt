@@ -1,6 +1,6 @@
 -- What the table tells the code's state where a record may stand: its kind, whether pairs are due and whether there is a
 -- weighting. So the step of its kind is the step.
-use mathlib.Core.Path.{_≡_, refl, sym, ap, subst, _∙_}
+use mathlib.Core.Path.{_≡_, refl, sym, subst, _∙_}
 use mathlib.Core.Bool.{Bool, true, false≢true}
 use mathlib.Core.Option.{Option, some}
 use Prim.Native.Nat.{ℕ, _≤_}
@@ -75,9 +75,7 @@ rest-marked last due _ w l h m is-C c p t = absurd (c refl)
 rest-marked last due _ w l h m is-P c p t = absurd (p refl)
 rest-marked last due _ w l h m is-W c p t = absurd (t refl)
 rest-marked last due _ w l h m is-M c p t = refl
-rest-marked last due _ w l h m (is-other k i) c p t =
-    let e : may-follow last 10 due w ≡ true = ap (λ (n : ℕ). may-follow last n due w) (sym i) ∙ m in
-    absurd (may-follow-entry last 10 due w e (other-nowhere last (omega arith)))
+rest-marked last due _ w l h m (is-other k i j) c p t = absurd (may-follow-entry last (index k) due w m (other-nowhere last (index k) (omega arith) i j))
 
 -- WHERE A RECORD of kind k may stand
 

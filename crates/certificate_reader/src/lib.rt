@@ -46,7 +46,7 @@ pub fn read_certificate(
 {
     let n = certificate.len() / 8;
     let mut s = State {
-        last: 5,
+        last: records::order::START_OF_COMPONENTS,
         number: 0,
         due: 0,
         weighted: false,

@@ -60,7 +60,7 @@ fn component(r: Record, s: State) -> Stepped
         return Stepped::Refused(Refusal::OutOfRange);
     }
     Stepped::On(State {
-        last: 6,
+        last: records::order::COMPONENT,
         number: s.number + 1,
         due: r.c as usize,
         weighted: r.b == 1,
@@ -89,7 +89,7 @@ fn pair(r: Record, s: State, rules: usize, starts: &[u16], nodes: &[u8], defined
     match pair_finder::arcs::place_of(starts, nodes, defined, rules, r.a as usize, r.b as usize) {
         Answer::Refused(x) => Stepped::Refused(x),
         Answer::Passed(_) => Stepped::On(State {
-            last: 7,
+            last: records::order::PAIR,
             number: s.number,
             due: s.due - 1,
             weighted: s.weighted,
@@ -140,7 +140,7 @@ fn weight(r: Record, s: State, symbols: usize, arities: &[u8]) -> Stepped
         return Stepped::Refused(Refusal::OutOfRange);
     }
     Stepped::On(State {
-        last: 8,
+        last: records::order::WEIGHT,
         number: s.number,
         due: 0,
         weighted: s.weighted,
@@ -167,7 +167,7 @@ fn marked(r: Record, s: State, symbols: usize, arities: &[u8], defined: &[u8]) -
         return Stepped::Refused(Refusal::OutOfRange);
     }
     Stepped::On(State {
-        last: 9,
+        last: records::order::MARKED,
         number: s.number,
         due: 0,
         weighted: s.weighted,

@@ -15,7 +15,7 @@ use Rattle.rewriting.specs.Pairs.{is-pair, defined}
 use Rattle.rewriting.proofs.Basics.{by-test, not-both, cond-false, cond-second, and-both, ands, each-at}
 use Rattle.records.specs.declared.Record.{Record}
 use Rattle.records.specs.Outcomes.{Outcome, refused, passed, after, unless}
-use Rattle.records.specs.Order.{C-component, P-pair, W-weight, M-marked, certificate-edge, index, entry, order, when-in, lets, may-follow, last-row}
+use Rattle.records.specs.Order.{C-component, P-pair, W-weight, M-marked, certificate-edge, components-start, rows, index, entry, order, when-in, lets, may-follow, last-row}
 use Rattle.records.specs.Rising.{last-below, rising}
 use Rattle.records.proofs.Outcomes.{not-passed, refused-same}
 use Rattle.records.proofs.Bytes.{All-in-range}
@@ -45,7 +45,7 @@ begun-of nothing = none
 begun-of (within cs n c) = some c
 
 abbrev reader : So-far → Certificate-reading
-reader x = record { last = last-row certificate-edge (so-far-records x); done = done-of x; begun = begun-of x; due = due x }
+reader x = record { last = last-row components-start (so-far-records x); done = done-of x; begun = begun-of x; due = due x }
 
 weighted-same : (x : So-far) → has-weighting (begun-of x) ≡ weighted x
 unfolding has-weighting begun-of weighted
@@ -79,7 +79,7 @@ module _ (p : System) where
       (all-read-row p all (omega arith) (omega arith) .0) all
 
   -- the table's rows for a certificate
-  reader-row : (x : So-far) → Good-so-far p x → (5 ≤ reader x .last) × (reader x .last ≤ 10)
+  reader-row : (x : So-far) → Good-so-far p x → (5 ≤ reader x .last) × (reader x .last < rows)
   reader-row x g = let row = all-read-row p (so-far-read x g) (omega arith) (omega arith) in (row .1, row .2)
 
 -- the weights of the last weighting rise, if there is one
@@ -230,7 +230,7 @@ verdict p x r g =
 
 -- and the end of the file
 abbrev may-end : So-far → Bool
-may-end x = may-follow (last-row certificate-edge (so-far-records x)) certificate-edge (due x) (weighted x)
+may-end x = may-follow (last-row components-start (so-far-records x)) certificate-edge (due x) (weighted x)
 
 end-by-test : (x : So-far) → cert-end (reader x) ≡ unless (may-end x) 2 (passed (components-of (reader x)))
 unfolding cert-end
@@ -251,7 +251,7 @@ module _ (p : System) where
     are : done ≡ so-far-records before
     there : reader before ≡ x
 
-  found : {done : List Record} {x : Certificate-reading} → Reached p done x → x .last ≡ last-row certificate-edge done → All-in-range done → Found done x
+  found : {done : List Record} {x : Certificate-reading} → Reached p done x → x .last ≡ last-row components-start done → All-in-range done → Found done x
   unfolding so-far-records Good-so-far done-of begun-of due last-row
   found only.at-start row fits = record { before = nothing; good = tt; are = refl; there = refl }
   found (inside last cs c left n s stage b) row fits =
@@ -303,7 +303,7 @@ module _ (p : System) where
       next-fails (passes y s i q) e on = on y refl e
 
   -- record by record
-  fails-from : (rs done : List Record) (x : Certificate-reading) (n : ℕ) → Reached p done x → x .last ≡ last-row certificate-edge done → All-in-range (done ++ rs)
+  fails-from : (rs done : List Record) (x : Certificate-reading) (n : ℕ) → Reached p done x → x .last ≡ last-row components-start done → All-in-range (done ++ rs)
       → cert-from p rs x ≡ refused n → Certificate-fails p (done ++ rs) n
   unfolding cert-from
   fails-from [] done x n so row fits e = rw append-nil (end-fails n (found so row (rw append-nil at fits)) e)

@@ -14,7 +14,7 @@ use Rattle.rewriting.proofs.Basics.{and-left, and-right}
 use Rattle.records.specs.declared.Record.{Record}
 use Rattle.records.specs.Outcomes.{passed}
 use Rattle.records.specs.Records.{a-record}
-use Rattle.records.specs.Order.{C-component, P-pair, W-weight, M-marked, certificate-edge, index, may-follow}
+use Rattle.records.specs.Order.{C-component, P-pair, W-weight, M-marked, components-start, rows, index, may-follow}
 use Rattle.records.specs.Rising.{last-below}
 use Rattle.records.proofs.Outcomes.{not-passed, passed-same, test-held}
 use Rattle.records.proofs.Table.{Kind, is-S, is-R, is-F, is-V, is-C, is-P, is-W, is-M, is-other, kind-of, certificate-apart, other-nowhere, may-follow-entry}
@@ -27,7 +27,7 @@ use Rattle.certificates.proofs.Encoding.{weight-record}
 
 -- before the first record
 abbrev pub nothing-read : Certificate-reading
-nothing-read = record { last = certificate-edge; done = []; begun = none; due = 0 }
+nothing-read = record { last = components-start; done = []; begun = none; due = 0 }
 
 -- after a C record
 abbrev pub begun-with : (weightings : ℕ) → Component
@@ -129,7 +129,7 @@ module _ (p : System) (y : Certificate-reading) (one a b c : ℕ) where
         (reads-marked last cs d due this-weight h (and-right (eqb one 0) _ (zeros .0)) (and-left _ _ (place .0)) (and-right (is-place p a b) _ (place .0)))
 
 -- no other kind may stand in a certificate
-pub foreign : {C : Type 0} (row next due : ℕ) (weighted : Bool) → 5 ≤ row → row ≤ 10 → next < 5 → may-follow row next due weighted ≡ true → C
+pub foreign : {C : Type 0} (row next due : ℕ) (weighted : Bool) → 5 ≤ row → row < rows → next < 5 → may-follow row next due weighted ≡ true → C
 foreign row next due weighted h k l e = absurd (may-follow-entry row next due weighted e (certificate-apart row next h k l))
 
 -- the kinds that may
@@ -139,7 +139,7 @@ pub data Own-kind : ℕ → Type 0 where
   own-W : Own-kind W-weight
   own-M : Own-kind M-marked
 
-module _ (row due : ℕ) (weighted : Bool) (l : 5 ≤ row) (m : row ≤ 10) where
+module _ (row due : ℕ) (weighted : Bool) (l : 5 ≤ row) (m : row < rows) where
   own-among : {k : ℕ} → Kind k → may-follow row (index k) due weighted ≡ true → Own-kind k
   unfolding index
   own-among is-S h = foreign row 1 due weighted l m (omega arith) h
@@ -150,7 +150,7 @@ module _ (row due : ℕ) (weighted : Bool) (l : 5 ≤ row) (m : row ≤ 10) wher
   own-among is-P h = own-P
   own-among is-W h = own-W
   own-among is-M h = own-M
-  own-among (is-other k i) h = absurd (may-follow-entry row 10 due weighted (rw i at h) (other-nowhere row m))
+  own-among (is-other k i j) h = absurd (may-follow-entry row (index k) due weighted h (other-nowhere row (index k) m i j))
 
   pub own-kind : (k : ℕ) → may-follow row (index k) due weighted ≡ true → Own-kind k
   own-kind k h = own-among (kind-of k) h
@@ -170,14 +170,14 @@ module _ (p : System) (last : ℕ) (cs : List Component) (due : ℕ) (y : Certif
   of-kind none _ own-M h e = not-passed e
   of-kind (some d) _ own-M h e = marked-passes p y one a b c last cs d due h e
 
-pub passes-reads : (p : System) (x y : Certificate-reading) (r : Record) → 5 ≤ x .last → x .last ≤ 10 → cert-step p r x ≡ passed y → Reads p x r y
+pub passes-reads : (p : System) (x y : Certificate-reading) (r : Record) → 5 ≤ x .last → x .last < rows → cert-step p r x ≡ passed y → Reads p x r y
 unfolding cert-step
 passes-reads p x y r l m e =
     let t = test-held _ _ _ e in
     of-kind p (x .last) (x .done) (x .due) y (r .one) (r .a) (r .b) (r .c) (x .begun) (r .kind) (own-kind (x .last) (x .due) (has-weighting (x .begun)) l m (r .kind) (t .0)) (t .0) (t .1)
 
 -- its row is the record's, and one of the certificate's
-pub reads-row : (p : System) {x y : Certificate-reading} {r : Record} → Reads p x r y → (y .last ≡ index (r .kind)) × (5 ≤ y .last) × (y .last ≤ 10)
+pub reads-row : (p : System) {x y : Certificate-reading} {r : Record} → Reads p x r y → (y .last ≡ index (r .kind)) × (5 ≤ y .last) × (y .last < rows)
 unfolding index pair-record
 reads-row p (reads-component x b n h k) = (refl, omega arith, omega arith)
 reads-row p (reads-pair last cs c due q h below is) = (refl, omega arith, omega arith)

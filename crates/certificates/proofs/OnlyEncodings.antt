@@ -4,7 +4,7 @@ use mathlib.Core.Path.{_≡_, refl, sym, ap, _∙_, subst}
 use mathlib.Core.Bool.{true, false, _&&_, false≢true}
 use mathlib.Core.List.{List, [], _∷_, _++_, append-assoc, append-nil}
 use mathlib.Core.Option.{none, some}
-use Prim.Native.Nat.{ℕ, _+_, _-_, _%_, _≤_}
+use Prim.Native.Nat.{ℕ, _+_, _-_, _%_, _≤_, _<_}
 use native.Mathlib.Nat.{zero-add, add-zero}
 use native.Mathlib.Omega.{arith}
 use lib.Dec.{ltb, eqb}
@@ -17,7 +17,7 @@ use Rattle.rewriting.proofs.Basics.{and-left, and-right, or-left-false, or-righ
 use Rattle.records.specs.declared.Record.{Record}
 use Rattle.records.specs.Outcomes.{passed}
 use Rattle.records.specs.Records.{a-record, all-records, all-record-bytes, length-bad, all-bytes}
-use Rattle.records.specs.Order.{C-component, W-weight, M-marked, entry, order, when-in, lets, may-follow, certificate-edge}
+use Rattle.records.specs.Order.{C-component, W-weight, M-marked, components-start, rows, entry, order, when-in, lets, may-follow, certificate-edge}
 use Rattle.records.specs.Rising.{last-below, rising}
 use Rattle.records.proofs.Outcomes.{passed-same, test-held, test-failed, after-passed}
 use Rattle.records.proofs.Bytes.{bytes-of-records, records-in-range}
@@ -46,7 +46,7 @@ pub data Reached (p : System) : List Record → Certificate-reading → Type 0 w
   inside : (last : ℕ) (cs : List Component) (c : Component) (due n : ℕ) → Each (Shaped p) cs → Stage last c due → Begun p c due n
       → Reached p (component-records 0 cs ++ records-of (length cs) n c) (going-on last cs c due)
 
-pub reached-row : (p : System) {rs : List Record} {x : Certificate-reading} → Reached p rs x → (5 ≤ x .last) × (x .last ≤ 10)
+pub reached-row : (p : System) {rs : List Record} {x : Certificate-reading} → Reached p rs x → (5 ≤ x .last) × (x .last < rows)
 reached-row p at-start = omega arith
 reached-row p (inside last cs c due n s st b) = stage-row st
 
@@ -187,7 +187,7 @@ module _ (p : System) where
   at-end : {rs : List Record} {x : Certificate-reading} → Reached p rs x → (cs : List Component) → cert-end x ≡ passed cs → Ended p rs cs
   unfolding cert-end components-of with-begun component-records
   at-end at-start cs e =
-      subst (Ended p []) (passed-same (test-held (may-follow certificate-edge certificate-edge 0 (has-weighting none)) _ _ e .1))
+      subst (Ended p []) (passed-same (test-held (may-follow components-start certificate-edge 0 (has-weighting none)) _ _ e .1))
       (record { records = refl; shaped = each-nil })
   at-end (inside last ds c due n s st b) cs e =
       let t = test-held (may-follow last certificate-edge due (has-weighting (some c))) _ _ e in

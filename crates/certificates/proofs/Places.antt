@@ -3,7 +3,7 @@ use mathlib.Core.Path.{_≡_, refl}
 use mathlib.Core.Bool.{Bool, true, false≢true}
 use mathlib.Core.List.{List, [], _∷_}
 use mathlib.Core.Option.{some}
-use Prim.Native.Nat.{ℕ, zero, suc, _≤_}
+use Prim.Native.Nat.{ℕ, zero, suc, _≤_, _<_}
 use native.Mathlib.Omega.{arith}
 use lib.ListN.{length, replicate}
 use borrow.Author.Tests.{eqb-true}
@@ -11,7 +11,7 @@ use Rattle.rewriting.specs.Terms.{System}
 use Rattle.rewriting.specs.Pairs.{Pair}
 use Rattle.rewriting.proofs.Basics.{Each, each-nil, each-cons}
 use Rattle.records.specs.Outcomes.{passed}
-use Rattle.records.specs.Order.{entry, order, when-in, lets, may-follow, certificate-edge}
+use Rattle.records.specs.Order.{rows, entry, order, when-in, lets, may-follow, certificate-edge}
 use Rattle.records.specs.Rising.{rising}
 use Rattle.polynomials.specs.Polynomials.{Weight, Weighting}
 use Rattle.certificates.specs.Components.{Component, no-weighting}
@@ -103,7 +103,7 @@ pub data Stage : (last : ℕ) → Component → (due : ℕ) → Type 0 where
   after-weight : (qs : List Pair) (ws : List Weight) → Stage 8 (weighted qs ws []) 0
   after-marked : (qs : List Pair) (ws ms : List Weight) → Stage 9 (weighted qs ws ms) 0
 
-pub stage-row : {last : ℕ} {c : Component} {due : ℕ} → Stage last c due → (5 ≤ last) × (last ≤ 10)
+pub stage-row : {last : ℕ} {c : Component} {due : ℕ} → Stage last c due → (5 ≤ last) × (last < rows)
 stage-row (after-component vs due f h) = omega arith
 stage-row (after-pair qs vs due f) = omega arith
 stage-row (after-weight qs ws) = omega arith

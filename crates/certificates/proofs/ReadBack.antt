@@ -3,7 +3,7 @@ use mathlib.Core.Path.{_≡_, refl, sym, ap, _∙_}
 use mathlib.Core.Bool.{true, false}
 use mathlib.Core.List.{List, [], _∷_, _++_, append-assoc, append-nil}
 use mathlib.Core.Option.{some}
-use Prim.Native.Nat.{ℕ, zero, suc, _+_, _-_, _%_, _≤_}
+use Prim.Native.Nat.{ℕ, zero, suc, _+_, _-_, _%_, _≤_, _<_}
 use native.Mathlib.Nat.{add-zero}
 use native.Mathlib.Omega.{arith}
 use lib.ListN.{length, replicate, length-append}
@@ -14,7 +14,7 @@ use Rattle.rewriting.proofs.Basics.{Each, each-head, each-tail}
 use Rattle.records.specs.declared.Record.{Record}
 use Rattle.records.specs.Outcomes.{passed}
 use Rattle.records.specs.Records.{all-record-bytes, length-bad}
-use Rattle.records.specs.Order.{W-weight, M-marked, entry, order, when-in, lets, may-follow, last-row}
+use Rattle.records.specs.Order.{W-weight, M-marked, rows, entry, order, when-in, lets, may-follow, last-row}
 use Rattle.records.proofs.Bytes.{records-of-bytes, length-of-bytes}
 use Rattle.packs.specs.Encoding.{Good-pack}
 use Rattle.pairs.specs.Listing.{pair-records}
@@ -49,8 +49,8 @@ module _ (p : System) where
   all-read more (reads-next x y z r rs h hs) = rw (reads-passes p x y r h) (all-read more hs)
 
   -- the row is then the last record's
-  pub all-read-row : {x y : Certificate-reading} {rs : List Record} → Reads-all x rs y → 5 ≤ x .last → x .last ≤ 10
-      → (y .last ≡ last-row (x .last) rs) × (5 ≤ y .last) × (y .last ≤ 10)
+  pub all-read-row : {x y : Certificate-reading} {rs : List Record} → Reads-all x rs y → 5 ≤ x .last → x .last < rows
+      → (y .last ≡ last-row (x .last) rs) × (5 ≤ y .last) × (y .last < rows)
   unfolding last-row
   all-read-row (reads-none x) l m = (refl, l, m)
   all-read-row (reads-next x y z r rs h hs) l m =

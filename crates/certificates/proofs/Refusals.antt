@@ -14,10 +14,10 @@ use Rattle.rewriting.proofs.Basics.{and-both}
 use Rattle.records.specs.declared.Record.{Record}
 use Rattle.records.specs.Outcomes.{Outcome, refused, passed, after, refusal}
 use Rattle.records.specs.Records.{all-records, length-bad}
-use Rattle.records.specs.Order.{index, certificate-edge, obeys}
+use Rattle.records.specs.Order.{certificate-edge, certificate-start, rows, index, obeys}
 use Rattle.records.proofs.Outcomes.{test-held, test-failed, after-passed, after-same, after-after, Refused-within, test-within, refusal-within, wider, within}
 use Rattle.records.proofs.Bytes.{records-append}
-use Rattle.records.proofs.Table.{may-follow-stands}
+use Rattle.records.proofs.Table.{may-follow-stands, starts-agree}
 use Rattle.certificates.specs.Components.{Component}
 use Rattle.certificates.specs.CertificateReading.{Certificate-reading, most-certificate-bytes, has-weighting, component-read, pair-read, weight-read, marked-read, inside-read, cert-step, cert-end, cert-from, cert-steps, read-certificate}
 use Rattle.certificates.proofs.OneRecord.{nothing-read, passes-reads, reads-row}
@@ -140,7 +140,7 @@ module _ (p : System) where
 
   -- A CERTIFICATE THAT PASSES OBEYS THE TABLE
 
-  pub records-obey : (rs : List Record) (x : Certificate-reading) (cs : List Component) → 5 ≤ x .last → x .last ≤ 10 → cert-from p rs x ≡ passed cs
+  pub records-obey : (rs : List Record) (x : Certificate-reading) (cs : List Component) → 5 ≤ x .last → x .last < rows → cert-from p rs x ≡ passed cs
       → obeys (x .last) certificate-edge rs ≡ true
   unfolding cert-from cert-end cert-step obeys
   records-obey [] x cs l m e = may-follow-stands (x .last) certificate-edge (x .due) (has-weighting (x .begun)) (test-held _ _ _ e .0)
@@ -152,6 +152,8 @@ module _ (p : System) where
       (may-follow-stands (x .last) (index (r .kind)) (x .due) (has-weighting (x .begun)) (test-held _ _ _ (step .1) .0))
       (rw (next .0) at (records-obey rs y cs (next .1) (next .2) (step .2)))
 
-  pub certificates-obey : (ds : List ℕ) (cs : List Component) → read-certificate p ds ≡ passed cs → obeys certificate-edge certificate-edge (all-records ds) ≡ true
+  pub certificates-obey : (ds : List ℕ) (cs : List Component) → read-certificate p ds ≡ passed cs → obeys certificate-start certificate-edge (all-records ds) ≡ true
   unfolding read-certificate
-  certificates-obey ds cs e = records-obey (all-records ds) _ cs (omega arith) (omega arith) (test-failed (length-bad most-certificate-bytes ds) _ 1 e .1)
+  certificates-obey ds cs e =
+      starts-agree certificate-edge (all-records ds)
+      ∙ records-obey (all-records ds) _ cs (omega arith) (omega arith) (test-failed (length-bad most-certificate-bytes ds) _ 1 e .1)

@@ -8,7 +8,7 @@ use Rattle.rewriting.specs.Terms.{System}
 use Rattle.rewriting.specs.Pairs.{Pair, is-pair, defined}
 use Rattle.records.specs.declared.Record.{Record}
 use Rattle.records.specs.Records.{a-record}
-use Rattle.records.specs.Order.{C-component, P-pair, W-weight, M-marked, certificate-edge, index, may-follow, last-row}
+use Rattle.records.specs.Order.{C-component, P-pair, W-weight, M-marked, certificate-edge, components-start, index, may-follow, last-row}
 use Rattle.pairs.specs.Listing.{a-pair, pair-records}
 use Rattle.polynomials.specs.Polynomials.{Weight}
 use Rattle.polynomials.specs.Judging.{is-none}
@@ -74,7 +74,7 @@ pair-of r = a-pair (r .a) (r .b)
 
 -- the table lets this come next: a kind's column, or the end of the file
 unfoldable pub Follows : So-far → (next : ℕ) → Type 0
-Follows x next = may-follow (last-row certificate-edge (so-far-records x)) next (due x) (weighted x) ≡ true
+Follows x next = may-follow (last-row components-start (so-far-records x)) next (due x) (weighted x) ≡ true
 
 -- 2 is not given: the table lets its kind stand, byte 1 and every field not named are zero, C is in sequence and has no second
 -- pair without a weighting, P, W and M rise

@@ -10,7 +10,7 @@ use Rattle.rewriting.specs.Pairs.{is-pair, defined}
 use Rattle.records.specs.declared.Record.{Record}
 use Rattle.records.specs.Outcomes.{Outcome, refused, passed, after, unless}
 use Rattle.records.specs.Records.{all-records, length-bad}
-use Rattle.records.specs.Order.{C-component, P-pair, W-weight, certificate-edge, index, may-follow}
+use Rattle.records.specs.Order.{C-component, P-pair, W-weight, certificate-edge, components-start, index, may-follow}
 use Rattle.records.specs.Rising.{last-below}
 use Rattle.pairs.specs.Listing.{a-pair}
 use Rattle.polynomials.specs.Polynomials.{Weight}
@@ -112,4 +112,4 @@ cert-steps p (r ∷ rs) x = after (cert-step p r x) (λ y. cert-steps p rs y)
 unfoldable pub read-certificate : System → List ℕ → Outcome (List Component)
 read-certificate p ds =
     cond (length-bad most-certificate-bytes ds) (refused 1)
-    (cert-from p (all-records ds) (record { last = certificate-edge; done = []; begun = none; due = 0 }))
+    (cert-from p (all-records ds) (record { last = components-start; done = []; begun = none; due = 0 }))

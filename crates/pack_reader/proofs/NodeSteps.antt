@@ -67,7 +67,7 @@ kind-row is-C l h a = absurd (omega arith)
 kind-row is-P l h a = absurd (omega arith)
 kind-row is-W l h a = absurd (omega arith)
 kind-row is-M l h a = absurd (omega arith)
-kind-row (is-other k e) l h a = absurd (omega (arith, e))
+kind-row (is-other k m _) l h a = absurd (omega (arith, m))
 
 -- inside a rule a record that may stand has the row of the node that it comes to
 pub outcome-row : {b : ℕ} (n : ℕ) (r : Record) (x : Node) (due : ℕ) → Inside b → 1 ≤ due

@@ -52,7 +52,7 @@ pub fn read_nodes(
     ensures { λ x. ⌜ Nodes-read (node-steps symbols 2 count (drop from (all-records (now (pack .entry))))) x base (now (nodes .entry)) (now (nodes .exit)) ⌝ }
 {
     let n = pack.len() / 8;
-    let mut last = 2;
+    let mut last = records::order::RULE;
     let mut j = 0;
     while j < count {
         // After R, F and V the table lets no pack end while nodes are due.
@@ -70,7 +70,7 @@ pub fn read_nodes(
             Answer::Passed(code) => {
                 nodes[base + j] = code as u8;
                 // F's row, or V's, which comes next.
-                last = 3 + code / MOST_SYMBOLS;
+                last = records::order::APPLICATION + code / MOST_SYMBOLS;
                 j = j + 1;
             }
         }

@@ -96,9 +96,9 @@ pub fn read_rules(
     ensures { λ x. ⌜ Rules-read (pack-from (drop symbols (all-records (now (pack .entry)))) (between-rules (row-after symbols) (take symbols (now (arities .entry))) [])) (take symbols (now (arities .entry))) x (now (starts .exit)) (now (nodes .exit)) ⌝ }
 {
     let n = pack.len() / 8;
-    let mut last = 1;
+    let mut last = records::order::SYMBOL;
     if symbols == 0 {
-        last = 0;
+        last = records::order::START_OF_PACK;
     }
     let mut at = symbols;
     let mut base = 0;

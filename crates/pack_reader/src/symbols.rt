@@ -42,7 +42,7 @@ pub fn read_symbols(pack: &[u8], arities: &mut [u8]) -> Answer
     ensures { λ x. ⌜ Symbols-read (symbol-steps 0 0 (all-records (now (pack .entry)))) x (now (arities .exit)) ⌝ }
 {
     let n = pack.len() / 8;
-    let mut last = 0;
+    let mut last = records::order::START_OF_PACK;
     let mut i = 0;
     while i < n {
         let Wanted::Found(r) = records::read_wanted(pack, 8 * i, last, 0, false) else {
@@ -57,7 +57,7 @@ pub fn read_symbols(pack: &[u8], arities: &mut [u8]) -> Answer
             }
             Answer::Passed(b) => {
                 arities[i] = b as u8;
-                last = 1;
+                last = records::order::SYMBOL;
                 i = i + 1;
             }
         }

@@ -267,7 +267,7 @@ tested-stands s _ one a b c is-C row h = foreign _ 6 _ row (omega arith) (omega 
 tested-stands s _ one a b c is-P row h = foreign _ 7 _ row (omega arith) (omega arith) (and-left _ _ h)
 tested-stands s _ one a b c is-W row h = foreign _ 8 _ row (omega arith) (omega arith) (and-left _ _ h)
 tested-stands s _ one a b c is-M row h = foreign _ 9 _ row (omega arith) (omega arith) (and-left _ _ h)
-tested-stands s _ one a b c (is-other k i) row h = foreign _ 10 _ row (omega arith) (omega arith) (rw i at (and-left (may-follow _ (index k) _ false) _ h))
+tested-stands s _ one a b c (is-other k l m) row h = foreign _ _ _ row (omega arith) m (and-left _ _ h)
 
 standing : (s : So-far) → Good-so-far s → (r : Record) → stands-test r (reading s) ≡ true → Stands s r
 standing s g r t =

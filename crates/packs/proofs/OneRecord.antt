@@ -14,7 +14,7 @@ use Rattle.rewriting.proofs.Basics.{by-test, and-left, and-right}
 use Rattle.records.specs.declared.Record.{Record}
 use Rattle.records.specs.Outcomes.{refused, passed}
 use Rattle.records.specs.Records.{a-record}
-use Rattle.records.specs.Order.{S-symbol, R-rule, F-application, V-variable, index, may-follow}
+use Rattle.records.specs.Order.{S-symbol, R-rule, F-application, V-variable, columns, index, may-follow}
 use Rattle.records.proofs.Outcomes.{not-passed, passed-same, test-held, after-passed}
 use Rattle.records.proofs.Table.{Kind, is-S, is-R, is-F, is-V, is-C, is-P, is-W, is-M, is-other, kind-of, pack-apart, may-follow-entry}
 use Rattle.terms.specs.Sides.{Node, variable, symbol, side}
@@ -189,7 +189,7 @@ module _ (x y : Pack-reading) (one a b c : ℕ) where
       rw (z .0, z .1, z .2) (node-passes (variable a) x y h (ltb-true _ _ (range .0)) (rw (z .0, z .1, z .2) at e))
 
 -- no other kind may stand in a pack
-pub foreign : {C : Type 0} (row next due : ℕ) → row < 5 → 5 ≤ next → next ≤ 10 → may-follow row next due false ≡ true → C
+pub foreign : {C : Type 0} (row next due : ℕ) → row < 5 → 5 ≤ next → next < columns → may-follow row next due false ≡ true → C
 foreign row next due h k l e = absurd (may-follow-entry row next due false e (pack-apart row next h k l))
 
 of-kind : (x y : Pack-reading) (k one a b c : ℕ) → Kind k → x .last < 5 → pack-step (record-of k one a b c) x ≡ passed y
@@ -203,9 +203,9 @@ of-kind x y _ one a b c is-C row e = foreign (x .last) 6 (x .due) row (omega ari
 of-kind x y _ one a b c is-P row e = foreign (x .last) 7 (x .due) row (omega arith) (omega arith) (test-held _ _ _ e .0)
 of-kind x y _ one a b c is-W row e = foreign (x .last) 8 (x .due) row (omega arith) (omega arith) (test-held _ _ _ e .0)
 of-kind x y _ one a b c is-M row e = foreign (x .last) 9 (x .due) row (omega arith) (omega arith) (test-held _ _ _ e .0)
-of-kind x y _ one a b c (is-other k i) row e =
+of-kind x y _ one a b c (is-other k l m) row e =
     let h : may-follow (x .last) (index k) (x .due) false ≡ true = test-held _ _ _ e .0 in
-    foreign (x .last) 10 (x .due) row (omega arith) (omega arith) (rw i at h)
+    foreign (x .last) (index k) (x .due) row (omega arith) m h
 
 pub passes-reads : (x y : Pack-reading) (r : Record) → x .last < 5 → pack-step r x ≡ passed y → Reads x r y
 passes-reads x y r row e = of-kind x y (r .kind) (r .one) (r .a) (r .b) (r .c) (kind-of (r .kind)) row e

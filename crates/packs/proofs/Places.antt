@@ -1,5 +1,5 @@
 -- Where in a pack a reading stands, between rules or inside one, and what the table lets come there.
-use mathlib.Core.Path.{_≡_, refl, subst}
+use mathlib.Core.Path.{_≡_, refl}
 use mathlib.Core.Bool.{true, false, false≢true}
 use mathlib.Core.List.{List, []}
 use mathlib.Core.Logic.{_⊎_, inl, inr}
@@ -129,7 +129,7 @@ inside-kind i is-C due h e = foreign _ 6 due (inside-row i) (omega arith) (omega
 inside-kind i is-P due h e = foreign _ 7 due (inside-row i) (omega arith) (omega arith) e
 inside-kind i is-W due h e = foreign _ 8 due (inside-row i) (omega arith) (omega arith) e
 inside-kind i is-M due h e = foreign _ 9 due (inside-row i) (omega arith) (omega arith) e
-inside-kind {k} {kind} i (is-other _ o) due h e = foreign k 10 due (inside-row i) (omega arith) (omega arith) (subst (λ (n : ℕ). may-follow k n due false ≡ true) o e)
+inside-kind i (is-other _ l m) due h e = foreign _ _ due (inside-row i) (omega arith) m e
 
 -- and after it the rule goes on
 pub inside-next : {k kind : ℕ} → Inside k → Kind kind → (due : ℕ) → 1 ≤ due → may-follow k (index kind) due false ≡ true → Inside (index kind)
@@ -147,4 +147,4 @@ between-kind b is-C e = foreign _ 6 0 (between-row b) (omega arith) (omega arith
 between-kind b is-P e = foreign _ 7 0 (between-row b) (omega arith) (omega arith) e
 between-kind b is-W e = foreign _ 8 0 (between-row b) (omega arith) (omega arith) e
 between-kind b is-M e = foreign _ 9 0 (between-row b) (omega arith) (omega arith) e
-between-kind {k} {kind} b (is-other _ o) e = foreign k 10 0 (between-row b) (omega arith) (omega arith) (subst (λ (n : ℕ). may-follow k n 0 false ≡ true) o e)
+between-kind b (is-other _ l m) e = foreign _ _ 0 (between-row b) (omega arith) m e

@@ -16,7 +16,7 @@ use Rattle.rewriting.specs.Systems.{member, variables-below}
 use Rattle.records.specs.declared.Record.{Record}
 use Rattle.records.specs.Outcomes.{refused, passed, refusal}
 use Rattle.records.specs.Records.{record-at, a-record, all-bytes, all-records, all-record-bytes, length-bad}
-use Rattle.records.specs.Order.{P-pair, pack-edge, certificate-edge, obeys}
+use Rattle.records.specs.Order.{P-pair, pack-edge, certificate-edge, certificate-start, obeys}
 use Rattle.records.specs.Rising.{rising}
 use Rattle.packs.specs.PackReading as packs
 use Rattle.packs.specs.PackReading.{pack-refusal, pack-in, read-pack, pack-from, pack-steps}
@@ -291,7 +291,7 @@ Packs-obey = (bs : List ℕ) (p : System) → read-pack bs ≡ passed p → obey
 unfoldable pub Certificates-obey : Type 0
 Certificates-obey =
     (p : System) (ds : List ℕ) (cs : List Component) → read-certificate p ds ≡ passed cs →
-    obeys certificate-edge certificate-edge (all-records ds) ≡ true
+    obeys certificate-start certificate-edge (all-records ds) ≡ true
 
 -- The listing holds every pair and nothing else, each once, rising.
 unfoldable pub Pairs-listed : Type 0

@@ -2,17 +2,19 @@
 -- there, and the two files' kinds never mix.
 use mathlib.Core.Path.{_≡_, refl, sym, subst}
 use mathlib.Core.Bool.{Bool, true, false, false≢true}
+use mathlib.Core.List.{List, [], _∷_}
 use mathlib.Core.Logic.{_⊎_, ⊎-elim}
 use Prim.Native.Nat.{ℕ, zero, suc, _+_, _-_, _/_, _%_, _^_, _≤_, _<_}
 use native.Mathlib.Nat.{le-of-suc-le-suc}
 use native.Mathlib.Omega.{arith}
 use lib.Dec.{ltb, eqb}
 use borrow.Author.Tests.{eqb-true, ne-eqb, lt-ltb, le-leb}
-use Rattle.records.specs.Order.{S-symbol, R-rule, F-application, V-variable, C-component, P-pair, W-weight, M-marked, index, order, when-in, entry, lets, may-follow}
+use Rattle.records.specs.Order.{S-symbol, R-rule, F-application, V-variable, C-component, P-pair, W-weight, M-marked, D-counting, I-innermost, L-weighting, columns, components-start, certificate-start, rows, index, order, when-in, entry, lets, may-follow, obeys}
+use Rattle.records.specs.declared.Record.{Record}
 use Rattle.records.specs.declared.order.Row.{Row}
 use Rattle.records.specs.Rows.{column-at, bit, Says, Row-says}
 
--- a byte is one of the eight letters or none of them
+-- a byte is one of the eight letters that may stand somewhere, or none of them
 pub data Kind : ℕ → Type 0 where
   is-S : Kind S-symbol
   is-R : Kind R-rule
@@ -22,7 +24,7 @@ pub data Kind : ℕ → Type 0 where
   is-P : Kind P-pair
   is-W : Kind W-weight
   is-M : Kind M-marked
-  is-other : (k : ℕ) → index k ≡ 10 → Kind k
+  is-other : (k : ℕ) → 10 ≤ index k → index k < columns → Kind k
 
 letter : (k m : ℕ) → Kind m → (eqb k m ≡ false → Kind k) → Kind k
 letter k m this other = go (eqb k m) refl
@@ -40,7 +42,14 @@ kind-of k =
     (λ f. letter k V-variable is-V
     (λ v. letter k C-component is-C
     (λ c. letter k P-pair is-P
-    (λ p. letter k W-weight is-W (λ w. letter k M-marked is-M (λ m. is-other k (rw (s, r, f, v, c, p, w, m))))))))))
+    (λ p. letter k W-weight is-W
+    (λ w. letter k M-marked is-M
+    (λ m. letter k D-counting (is-other D-counting (omega arith) (omega arith))
+    (λ d. letter k I-innermost (is-other I-innermost (omega arith) (omega arith))
+    (λ i. letter k L-weighting (is-other L-weighting (omega arith) (omega arith))
+    (λ l.
+    let e : index k ≡ 13 = rw (s, r, f, v, c, p, w, m, d, i, l) in
+    is-other k (omega arith) (omega arith))))))))))))
 
 -- THE TABLE
 
@@ -74,23 +83,31 @@ unfolding sum-of
 zero-in m n f h i j k l = zero-below n (f i) (zero-below m (λ i. sum-below n (f i)) h i k) j l
 
 -- in a pack no kind of the certificate may stand, nor any other byte
-pub pack-apart : (before next : ℕ) → before < 5 → 5 ≤ next → next ≤ 10 → entry before next ≡ 0
+pub pack-apart : (before next : ℕ) → before < 5 → 5 ≤ next → next < columns → entry before next ≡ 0
 unfolding entry order when-in sum-below sum-of
 pack-apart before next h k l =
     let f : 5 + (next - 5) ≡ next = omega arith in
-    rw f at (zero-in 5 6 (λ i j. entry i (5 + j)) refl before (next - 5) h (omega arith))
+    rw f at (zero-in 5 9 (λ i j. entry i (5 + j)) refl before (next - 5) h (omega arith))
 
 -- in a certificate no kind of the pack may stand
-pub certificate-apart : (before next : ℕ) → 5 ≤ before → before ≤ 10 → next < 5 → entry before next ≡ 0
+pub certificate-apart : (before next : ℕ) → 5 ≤ before → before < rows → next < 5 → entry before next ≡ 0
 unfolding entry order when-in sum-below sum-of
 certificate-apart before next h k l =
     let f : 5 + (before - 5) ≡ before = omega arith in
-    rw f at (zero-in 6 5 (λ i j. entry (5 + i) j) refl (before - 5) next (omega arith) l)
+    rw f at (zero-in 10 5 (λ i j. entry (5 + i) j) refl (before - 5) next (omega arith) l)
 
--- any other byte may stand nowhere
-pub other-nowhere : (before : ℕ) → before ≤ 10 → entry before 10 ≡ 0
+-- D, I, L and any other byte may stand nowhere
+pub other-nowhere : (before next : ℕ) → before < rows → 10 ≤ next → next < columns → entry before next ≡ 0
 unfolding entry order when-in sum-below sum-of
-other-nowhere before h = zero-in 11 1 (λ i j. entry i 10) refl before 0 (omega arith) (omega arith)
+other-nowhere before next h k l =
+    let f : 10 + (next - 10) ≡ next = omega arith in
+    rw f at (zero-in rows 4 (λ i j. entry i (10 + j)) refl before (next - 10) h (omega arith))
+
+-- what may begin a certificate is what may begin its components
+pub starts-agree : (edge : ℕ) (rs : List Record) → obeys certificate-start edge rs ≡ obeys components-start edge rs
+unfolding obeys entry order
+starts-agree edge [] = refl
+starts-agree edge (r ∷ rs) = refl
 
 -- THE CODE'S TABLE: three numbers to a row, a bit to a column
 
@@ -126,19 +143,25 @@ row-says before {row} {l} {d} {w} e (el, ed, ew) none =
       weighted = rw ew (hits before 0 true w (omega arith));
     })
 
--- the last row is the one that is left when ten are not it; five at a time, since `omega` splits each
+-- the empty rows
+pub empty-misses : (before : ℕ) → 10 ≤ before → before < certificate-start → row-misses before 0 0 0 ≡ 0
+unfolding index entry order when-in lets may-follow column-at bit sum-below distance misses row-misses
+empty-misses before h l =
+    let f : 10 + (before - 10) ≡ before = omega arith in
+    rw f at (zero-below 4 (λ i. row-misses (10 + i) 0 0 0) refl (before - 10) (omega arith))
+
+-- they are those that are left when eleven are not it; five at a time, since `omega` splits each
 five-past : (b n : ℕ) → n ≤ b → (b ≡ n → ⊥) → (b ≡ n + 1 → ⊥) → (b ≡ n + 2 → ⊥) → (b ≡ n + 3 → ⊥) → (b ≡ n + 4 → ⊥) → n + 5 ≤ b
 five-past b n h n0 n1 n2 n3 n4 = omega arith
 
-pub tenth-row : {U : Type 0} (b : ℕ) → b < 11
-    → (((((((((U × (b ≡ 0 → ⊥)) × (b ≡ 1 → ⊥)) × (b ≡ 2 → ⊥)) × (b ≡ 3 → ⊥)) × (b ≡ 4 → ⊥)) × (b ≡ 5 → ⊥)) × (b ≡ 6 → ⊥)) × (b ≡ 7 → ⊥)) × (b ≡ 8 → ⊥)) × (b ≡ 9 → ⊥)
-    → b ≡ 10
-tenth-row b h ((((((((((_, n0), n1), n2), n3), n4), n5), n6), n7), n8), n9) =
-    let past = five-past b 5 (five-past b 0 (omega arith) n0 n1 n2 n3 n4) n5 n6 n7 n8 n9 in
-    ten b h past
+pub rows-left : {U : Type 0} (b : ℕ) → b < rows
+    → ((((((((((U × (b ≡ 0 → ⊥)) × (b ≡ 1 → ⊥)) × (b ≡ 2 → ⊥)) × (b ≡ 3 → ⊥)) × (b ≡ 4 → ⊥)) × (b ≡ 5 → ⊥)) × (b ≡ 6 → ⊥)) × (b ≡ 7 → ⊥)) × (b ≡ 8 → ⊥)) × (b ≡ 9 → ⊥)) × (b ≡ 14 → ⊥)
+    → (10 ≤ b) × (b < certificate-start)
+rows-left b h (((((((((((_, n0), n1), n2), n3), n4), n5), n6), n7), n8), n9), last) =
+    (five-past b 5 (five-past b 0 (omega arith) n0 n1 n2 n3 n4) n5 n6 n7 n8 n9, before-last b h last)
   where
-    ten : (b : ℕ) → b < 11 → 10 ≤ b → b ≡ 10
-    ten b h k = omega arith
+    before-last : (b : ℕ) → b < rows → (b ≡ certificate-start → ⊥) → b < certificate-start
+    before-last b h last = omega arith
 
 -- while the count lasts, neither how much of it is left nor a weighting matters
 pub while-due-same : (before next due : ℕ) (weighted : Bool) → 1 ≤ due → may-follow before next due weighted ≡ may-follow before next 1 false
@@ -153,7 +176,7 @@ while-due-same before next due weighted h = same (entry before next)
     same (suc (suc (suc (suc e)))) = rw (ne-eqb due 0 (λ e. omega arith))
 
 -- a byte that is no letter is no kind
-pub no-kind : (k : ℕ) → _⊎_ (k < 65) (91 ≤ k) → index k ≡ 10
+pub no-kind : (k : ℕ) → _⊎_ (k < 65) (91 ≤ k) → index k ≡ 13
 unfolding index
 no-kind k h =
     simp (
@@ -165,4 +188,7 @@ no-kind k h =
       ne-eqb k 80 (λ e. ⊎-elim (λ l. omega arith) (λ l. omega arith) h),
       ne-eqb k 87 (λ e. ⊎-elim (λ l. omega arith) (λ l. omega arith) h),
       ne-eqb k 77 (λ e. ⊎-elim (λ l. omega arith) (λ l. omega arith) h),
+      ne-eqb k 68 (λ e. ⊎-elim (λ l. omega arith) (λ l. omega arith) h),
+      ne-eqb k 73 (λ e. ⊎-elim (λ l. omega arith) (λ l. omega arith) h),
+      ne-eqb k 76 (λ e. ⊎-elim (λ l. omega arith) (λ l. omega arith) h),
     )

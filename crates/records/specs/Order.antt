@@ -31,7 +31,16 @@ W-weight = 87
 abbrev pub M-marked : ℕ
 M-marked = 77
 
--- a kind's row and column in the table; rows and columns 0 and 5 are the start and the end of a file, 10 is any other byte
+abbrev pub D-counting : ℕ
+D-counting = 68
+
+abbrev pub I-innermost : ℕ
+I-innermost = 73
+
+abbrev pub L-weighting : ℕ
+L-weighting = 76
+
+-- a kind's row and column in the table; row 0 is the start of a pack, columns 0 and 5 are the ends of the files
 abbrev pub pack-edge : ℕ
 pack-edge = 0
 
@@ -62,8 +71,31 @@ W = 8
 abbrev M : ℕ
 M = 9
 
+abbrev D : ℕ
+D = 10
+
+abbrev I : ℕ
+I = 11
+
+abbrev L : ℕ
+L = 12
+
+-- any other byte
 abbrev other : ℕ
-other = 10
+other = 13
+
+abbrev pub columns : ℕ
+columns = 14
+
+-- a certificate and its components start in two rows, since what only begins a certificate may not begin its components
+abbrev pub components-start : ℕ
+components-start = 5
+
+abbrev pub certificate-start : ℕ
+certificate-start = 14
+
+abbrev pub rows : ℕ
+rows = 15
 
 unfoldable pub index : ℕ → ℕ
 index k =
@@ -71,7 +103,11 @@ index k =
     (cond (eqb k R-rule) R
     (cond (eqb k F-application) F
     (cond (eqb k V-variable) V′
-    (cond (eqb k C-component) C (cond (eqb k P-pair) P (cond (eqb k W-weight) W (cond (eqb k M-marked) M other)))))))
+    (cond (eqb k C-component) C
+    (cond (eqb k P-pair) P
+    (cond (eqb k W-weight) W
+    (cond (eqb k M-marked) M
+    (cond (eqb k D-counting) D (cond (eqb k I-innermost) I (cond (eqb k L-weighting) L other))))))))))
 
 -- What may come in a row, and when: 1 always, 2 while the count lasts (a rule's nodes, a component's pairs), 3 after it, 4 after it
 -- in a component with a weighting.
@@ -107,6 +143,9 @@ after-F-or-V = inside-count F ∷ inside-count V′ ∷ after-count R ∷ after-
 abbrev after-certificate-start : List May
 after-certificate-start = always C ∷ always certificate-edge ∷ []
 
+abbrev after-components-start : List May
+after-components-start = always C ∷ always certificate-edge ∷ []
+
 abbrev after-C : List May
 after-C = always P ∷ []
 
@@ -119,6 +158,12 @@ after-W = always W ∷ always M ∷ always C ∷ always certificate-edge ∷ []
 abbrev after-M : List May
 after-M = always M ∷ always C ∷ always certificate-edge ∷ []
 
+abbrev after-D-I-or-L : List May
+after-D-I-or-L = []
+
+abbrev after-other : List May
+after-other = []
+
 unfoldable pub order : List (List May)
 order =
     after-pack-start
@@ -126,11 +171,16 @@ order =
     ∷ after-R
     ∷ after-F-or-V
     ∷ after-F-or-V
-    ∷ after-certificate-start
+    ∷ after-components-start
     ∷ after-C
     ∷ after-P
     ∷ after-W
     ∷ after-M
+    ∷ after-D-I-or-L
+    ∷ after-D-I-or-L
+    ∷ after-D-I-or-L
+    ∷ after-other
+    ∷ after-certificate-start
     ∷ []
 
 -- when it may come in a row, 0 for never

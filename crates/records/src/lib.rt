@@ -8,6 +8,7 @@ ghost use mathlib.Core.List.{_++_};
 ghost use Prim.Native.Nat.{_+_, _≤_, _<_};
 ghost use lib.ListN.{length, take, drop};
 ghost use Rattle.records.specs.Records.{two, record-at, record-bytes, all-bytes};
+ghost use Rattle.records.specs.Order.{rows};
 ghost use Rattle.records.specs.Wanted.{wanted-at};
 ghost use Rattle.records.specs.Answers.{number-of};
 
@@ -149,7 +150,7 @@ pub fn write_record(list: &mut [u8], at: usize, r: Record)
 
 // The record that begins at byte i, if the table lets its kind stand there. A reader of the file gives it.
 pub fn read_wanted(s: &[u8], i: usize, before: usize, due: usize, weighted: bool) -> Wanted
-    requires { ⌜ (i + 8 ≤ length (now s)) × (before < 11) ⌝ }
+    requires { ⌜ (i + 8 ≤ length (now s)) × (before < rows) ⌝ }
     ensures { λ r. ⌜ r ≡ wanted-at (now (s .entry)) i before due weighted ⌝ }
 {
     let mut r = reader::Reader { file: s, at: i };

@@ -2,8 +2,27 @@
 ghost use mathlib.Core.Path.{_≡_};
 ghost use Prim.Native.Nat.{_/_, _%_, _^_, _<_};
 ghost use lib.Dec.{eqb};
-ghost use Rattle.records.specs.Order.{index, may-follow};
+ghost use Rattle.records.specs.Order.{rows, index, may-follow};
 ghost use Rattle.records.specs.Rows.{column-at, Row-says};
+
+// The rows that the readers name: the start of a pack and of the components, and a record's kind.
+pub const START_OF_PACK: usize = 0;
+
+pub const SYMBOL: usize = 1;
+
+pub const RULE: usize = 2;
+
+pub const APPLICATION: usize = 3;
+
+pub const START_OF_COMPONENTS: usize = 5;
+
+pub const COMPONENT: usize = 6;
+
+pub const PAIR: usize = 7;
+
+pub const WEIGHT: usize = 8;
+
+pub const MARKED: usize = 9;
 
 // The columns: the letters from A to Z, the ends of a pack and of a certificate, and one for every other byte.
 const LETTERS: usize = 26;
@@ -48,6 +67,8 @@ const AFTER_RULE: u32 = R + END_OF_PACK;
 
 const AFTER_CERTIFICATE_START: u32 = C + END_OF_CERTIFICATE;
 
+const AFTER_COMPONENTS_START: u32 = C + END_OF_CERTIFICATE;
+
 const AFTER_C: u32 = P;
 
 const AMONG_PAIRS: u32 = P;
@@ -91,7 +112,7 @@ fn counted(lasts: u32, done: u32) -> Row
 
 // The row of what stands before. A `match` is kept as a table in memory; a constant array is laid out anew at each use.
 fn row_of(before: usize) -> Row
-    requires { ⌜ before < 11 ⌝ }
+    requires { ⌜ before < rows ⌝ }
     ensures { λ r. ⌜ Row-says before r ⌝ }
 {
     match before {
@@ -100,7 +121,7 @@ fn row_of(before: usize) -> Row
         2 => ever(AFTER_R),
         3 => counted(INSIDE_RULE, AFTER_RULE),
         4 => counted(INSIDE_RULE, AFTER_RULE),
-        5 => ever(AFTER_CERTIFICATE_START),
+        5 => ever(AFTER_COMPONENTS_START),
         6 => ever(AFTER_C),
         7 => Row {
             lasts: AMONG_PAIRS,
@@ -109,6 +130,7 @@ fn row_of(before: usize) -> Row
         },
         8 => ever(AFTER_W),
         9 => ever(AFTER_M),
+        14 => ever(AFTER_CERTIFICATE_START),
         _ => ever(0),
     }
 }
@@ -134,7 +156,7 @@ fn has(columns: u32, next: usize) -> bool
 // Whether column `next` may come, by the row of what stands before, the count still due and whether the component has a
 // weighting.
 pub fn may_follow(before: usize, next: usize, due: usize, weighted: bool) -> bool
-    requires { ⌜ (before < 11) × (next < 29) ⌝ }
+    requires { ⌜ (before < rows) × (next < 29) ⌝ }
     ensures { λ r. ⌜ r ≡ may-follow before (column-at next) due weighted ⌝ }
 {
     let r = row_of(before);
@@ -148,8 +170,8 @@ pub fn may_follow(before: usize, next: usize, due: usize, weighted: bool) -> boo
 }
 
 // Whether a record of this kind may stand.
-pub fn stands(before: usize, kind: u8, due: usize, weighted: bool) -> bool
-    requires { ⌜ before < 11 ⌝ }
+pub fn kind_may_follow(before: usize, kind: u8, due: usize, weighted: bool) -> bool
+    requires { ⌜ before < rows ⌝ }
     ensures { λ r. ⌜ r ≡ may-follow before (index kind) due weighted ⌝ }
 {
     may_follow(before, column(kind), due, weighted)

@@ -3,6 +3,7 @@ use crate::Wanted;
 ghost use mathlib.Core.Path.{_≡_};
 ghost use Prim.Native.Nat.{_+_, _≤_, _<_};
 ghost use lib.ListN.{length};
+ghost use Rattle.records.specs.Order.{rows};
 ghost use Rattle.records.specs.Wanted.{wanted-at};
 
 // A file, and the byte where its next record begins.
@@ -13,11 +14,11 @@ pub struct Reader<'a> {
 
 // The work: the record that begins at byte i, if the table lets its kind stand there.
 fn wanted_in(s: &[u8], i: usize, before: usize, due: usize, weighted: bool) -> Wanted
-    requires { ⌜ (i + 8 ≤ length (now s)) × (before < 11) ⌝ }
+    requires { ⌜ (i + 8 ≤ length (now s)) × (before < rows) ⌝ }
     ensures { λ x. ⌜ x ≡ wanted-at (now (s .entry)) i before due weighted ⌝ }
 {
     let r = crate::record_at(s, i);
-    if crate::order::stands(before, r.kind, due, weighted) {
+    if crate::order::kind_may_follow(before, r.kind, due, weighted) {
         return Wanted::Found(r);
     }
     Wanted::Stray
@@ -25,7 +26,7 @@ fn wanted_in(s: &[u8], i: usize, before: usize, due: usize, weighted: bool) -> W
 
 // The next record, if the table lets its kind stand there. The reader moves on past it.
 pub fn next_wanted<'a>(r: &mut Reader<'a>, before: usize, due: usize, weighted: bool) -> Wanted
-    requires { ⌜ (now r .at + 8 ≤ length (now (now r .file))) × (before < 11) ⌝ }
+    requires { ⌜ (now r .at + 8 ≤ length (now (now r .file))) × (before < rows) ⌝ }
     ensures { λ x. ⌜ (x ≡ wanted-at (now (now (r .entry) .file)) (now (r .entry) .at) before due weighted) × (now (r .exit) .file ≡ now (r .entry) .file) × (now (r .exit) .at ≡ now (r .entry) .at + 8) ⌝ }
 {
     let at = r.at;

@@ -41,6 +41,7 @@ use denote.Triple.Table.{entered, cited}
 use denote.Triple.Walked.{says, needs, Stays, stay-none, stay-none-slice, walkOf, goes-none, goes-none-slice, ends-at}
 use denote.Triple.Clauses.{Lasts, ensured, lasts}
 use denote.Exit.{yes}
+use Rattle.records.specs.Order.{rows}
 use Rattle.records.specs.Wanted.{wanted-at}
 use Rattle.records.specs.declared.reader.Reader.{Reader}
 use Rattle.records.specs.declared.Wanted.{Wanted}
@@ -67,7 +68,7 @@ NextWanted 𝓤 H A mem run = tripleOf 𝓤 H A next-wanted.signature (next-want
 
 module _ {M : Type 1} (𝓤 : URA M) (H : Heap 𝓤) (A : Atoms 𝓤) (W : Given 𝓤 H A) (mem : Memory → SProp 𝓤) (run : Routine → Fun 𝓤)
     (κ : Lft) (q : Share) (s : RefT (List ℕ)) (i before due : ℕ) (weighted : Bool) (room : Room u8 (length (s .now)))
-    (i-fits : i < 2 ^ 64) (before-fits : before < 2 ^ 64) (due-fits : due < 2 ^ 64) (ok : (i + 8 ≤ length (now s)) × (before < 11)) where
+    (i-fits : i < 2 ^ 64) (before-fits : before < 2 ^ 64) (due-fits : due < 2 ^ 64) (ok : (i + 8 ≤ length (now s)) × (before < rows)) where
   -- the reader that is made
   abbrev h : Reader
   h = record { file = s; at = i }

@@ -16,7 +16,7 @@ use Rattle.records.specs.declared.Wanted.the-variants.{Found, Stray}
 use Rattle.records.specs.Answers.{answer-outcome}
 use Rattle.records.specs.Outcomes.{Outcome, refused, passed, after}
 use Rattle.records.specs.Records.{all-records}
-use Rattle.records.specs.Order.{S-symbol, index, may-follow}
+use Rattle.records.specs.Order.{S-symbol, rows, index, may-follow}
 use Rattle.records.specs.Wanted.{wanted-at}
 use Rattle.records.proofs.Bytes.{drop-records, length-of-records}
 use Rattle.packs.specs.PackReading.{most-symbols, most-arity}
@@ -64,7 +64,7 @@ Goes-on pack arities last i = after (steps-left pack last i) (with-arities (take
 
 abbrev Inv-loop : tie.InvT-loop
 Inv-loop pack arities₀ n last₀ i₀ arities last i =
-    (i ≤ length pack / 8) × (i ≤ 64) × (last < 11) × (length arities ≡ 64) × Goes-on pack arities last i
+    (i ≤ length pack / 8) × (i ≤ 64) × (last < rows) × (length arities ≡ 64) × Goes-on pack arities last i
 
 abbrev μ-loop : tie.MeasureT-loop
 μ-loop pack arities₀ n last₀ i₀ arities last i = length pack / 8 - i

@@ -3,7 +3,7 @@ use mathlib.Core.Path.{refl}
 use Rattle.records.specs.Order.{index, entry, order, when-in, lets, may-follow}
 use Rattle.records.specs.Rows.{column-at, bit}
 use borrow.Author.Needs.{needs}
-use Rattle.records.proofs.Table.{sum-below, distance, misses, row-misses, row-says, tenth-row}
+use Rattle.records.proofs.Table.{sum-below, distance, misses, row-misses, row-says, empty-misses, rows-left}
 use Rattle.records.proofs.order.row_of.Statement.{statement}
 use Rattle.records.proofs.order.row_of.Tie as tie
 
@@ -12,6 +12,7 @@ unfolding index entry order when-in lets may-follow column-at bit sum-below dist
 row-of-spec =
     tie.close
     (tie.spec
+    (λ c κs. search needs)
     (λ c κs. search needs)
     (λ c κs. search needs)
     (λ c κs. search needs)
@@ -32,4 +33,7 @@ row-of-spec =
     (λ c. row-says 7 (c .match .keys8) (refl, refl, refl) refl)
     (λ c. row-says 8 (c .before .match .keys9) (c .ever6 .ensures) refl)
     (λ c. row-says 9 (c .before .match .keys10) (c .ever7 .ensures) refl)
-    (λ c. row-says 10 (tenth-row _ (c .before .before .pre) (c .before .match .rest)) (c .ever8 .ensures) refl))
+    (λ c. row-says 14 (c .before .match .keys11) (c .ever8 .ensures) refl)
+    (λ c.
+    let left = rows-left _ (c .before .before .pre) (c .before .match .rest) in
+    row-says _ refl (c .ever9 .ensures) (empty-misses _ (left .0) (left .1))))

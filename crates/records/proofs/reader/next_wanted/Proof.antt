@@ -44,6 +44,7 @@ use denote.Triple.Spec.{Meets, tripleOf}
 use denote.Triple.Table.{entered, cited}
 use denote.Triple.Walked.{says, needs, Stays, stay-ref, walkOf, goes-ref, ends-at}
 use denote.Triple.Clauses.{ensured, lasts}
+use Rattle.records.specs.Order.{rows}
 use Rattle.records.specs.Wanted.{wanted-at}
 use Rattle.records.specs.declared.reader.Reader.{Reader}
 use Rattle.records.specs.declared.Wanted.{Wanted}
@@ -77,7 +78,7 @@ WantedIn 𝓤 H A mem run = tripleOf 𝓤 H A wanted-in.signature (wanted-in.spe
 -- the borrow is at κ, of the place (b, o) under the ghost name γ, and 'a is κ′; h is the reader at entry
 module _ {M : Type 1} (𝓤 : URA M) (H : Heap 𝓤) (A : Atoms 𝓤) (W : Given 𝓤 H A) (at-mem : Memory → SProp 𝓤) (run : Routine → Fun 𝓤)
     (κ κ′ : Lft) (q q′ : Share) (bounds : AllOutlive 2 (next-wanted.signature .outlives) (κ, (κ′, tt))) (b o : ℕ) (γ : GName) (h : Reader) (before due : ℕ) (weighted : Bool)
-    (before-fits : before < 2 ^ 64) (due-fits : due < 2 ^ 64) (ok : (h .at + 8 ≤ length (now (h .file))) × (before < 11)) where
+    (before-fits : before < 2 ^ 64) (due-fits : due < 2 ^ 64) (ok : (h .at + 8 ≤ length (now (h .file))) × (before < rows)) where
   -- the reader at exit
   abbrev h′ : Reader
   h′ = record { file = h .file; at = h .at + 8 }
