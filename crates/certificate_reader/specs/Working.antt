@@ -65,7 +65,7 @@ Steps-as (passed x) r = (s : State) × (r ≡ On s) × Mirrors s x
 unfoldable pub Goes-on : State → Stepped → Type 0
 Goes-on s r = (u : State) → r ≡ On u → Sound-state u × (u .number ≤ s .number + 1)
 
--- what `read_certificate` answers: the refusal, or how many components there are
+-- what `read_components` answers: the refusal, or how many components there are
 unfoldable pub Certificate-read : Outcome (List Component) → Answer → Type 0
 Certificate-read (refused n) r = answer-outcome r ≡ refused n
 Certificate-read (passed cs) r = answer-outcome r ≡ passed (length cs)

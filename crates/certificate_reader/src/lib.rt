@@ -8,9 +8,11 @@ ghost use mathlib.Core.Path.{_≡_};
 ghost use Prim.Native.Nat.{_%_, _≤_, _<_};
 ghost use lib.ListN.{length};
 ghost use Rattle.rewriting.specs.Terms.{System};
+ghost use Rattle.records.specs.Records.{all-records};
+ghost use Rattle.records.specs.Order.{components-start};
 ghost use Rattle.pack_reader.specs.Stored.{Stored};
 ghost use Rattle.pair_finder.specs.Walking.{Laid};
-ghost use Rattle.certificates.specs.CertificateReading.{read-certificate};
+ghost use Rattle.certificates.specs.CertificateReading.{components-from};
 ghost use Rattle.certificate_reader.specs.Working.{Certificate-read};
 
 // What has been read: the last record's row of the table, the components begun, the pairs still due of the last one,
@@ -31,8 +33,8 @@ pub enum Stepped {
     Refused(Refusal),
 }
 
-// Reads the certificate of a pack that was read. Answers how many components there are.
-pub fn read_certificate(
+// Reads the components in a certificate of a pack that was read. Answers how many there are.
+pub fn read_components(
     certificate: &[u8],
     symbols: usize,
     rules: usize,
@@ -42,7 +44,7 @@ pub fn read_certificate(
     defined: &[u8],
 ) -> Answer
     requires { ⌜ (length (now certificate) % 8 ≡ 0) × (length (now certificate) ≤ 24576) × (symbols ≤ 64) × (length (now arities) ≡ 64) × Laid (now starts) (now nodes) rules × (length (now defined) ≡ 64) ⌝ }
-    ensures { λ r. ⌜ ((p : System) → Stored p symbols rules (now (arities .entry)) (now (starts .entry)) (now (nodes .entry)) (now (defined .entry)) → Certificate-read (read-certificate p (now (certificate .entry))) r) ⌝ }
+    ensures { λ r. ⌜ ((p : System) → Stored p symbols rules (now (arities .entry)) (now (starts .entry)) (now (nodes .entry)) (now (defined .entry)) → Certificate-read (components-from p components-start (all-records (now (certificate .entry)))) r) ⌝ }
 {
     let n = certificate.len() / 8;
     let mut s = State {

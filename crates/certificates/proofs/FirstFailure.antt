@@ -22,7 +22,7 @@ use Rattle.records.proofs.Bytes.{All-in-range}
 use Rattle.pairs.specs.Listing.{a-pair, pair-records}
 use Rattle.polynomials.specs.Polynomials.{Weighting}
 use Rattle.certificates.specs.Components.{Component, no-weighting, last-weighting, weight-of, Weights-rise}
-use Rattle.certificates.specs.CertificateReading.{Certificate-reading, going-on, most-pairs, most-weightings, with-begun, components-of, has-weighting, component-read, pair-read, weights-below, is-place, weight-read, marked-read, inside-read, cert-step, cert-end, cert-from}
+use Rattle.certificates.specs.CertificateReading.{Certificate-reading, going-on, most-pairs, most-weightings, with-begun, components-of, has-weighting, component-read, pair-read, weights-below, is-place, weight-read, marked-read, inside-read, cert-step, cert-end, cert-from, components-from}
 use Rattle.certificates.specs.Encoding.{component-records, Good-weighting}
 use Rattle.certificates.specs.CertificateFailures.{So-far, nothing, within, so-far-records, Good-begun, Good-so-far, components, due, weighted, pairs-so-far, weights-so-far, marked-so-far, pair-of, Follows, Stands, stands-component, stands-pair, stands-weight, stands-marked, In-range, component-in-range, pair-in-range, weight-in-range, marked-in-range, Stray, Out-of-range, No-such-pair, First, Ends-early, Certificate-fails, stray-record, ends-early, out-of-range, no-such-pair}
 use Rattle.certificates.proofs.Rising.{rising-snoc, below-next}
@@ -316,8 +316,8 @@ module _ (p : System) where
       rw append-snoc at
       (fails-from rs (done ++ (r ∷ [])) y n (one-more p so reads) (reads-row p reads .0 ∙ sym (last-row-snoc _ done r)) (rw append-snoc fits) rest))
 
-pub certificate-fails : (p : System) (rs : List Record) (n : ℕ) → All-in-range rs → cert-from p rs nothing-read ≡ refused n → Certificate-fails p rs n
-unfolding last-row
+pub certificate-fails : (p : System) (rs : List Record) (n : ℕ) → All-in-range rs → components-from p components-start rs ≡ refused n → Certificate-fails p rs n
+unfolding last-row components-from
 certificate-fails p rs n fits e = fails-from p rs [] nothing-read n only.at-start refl fits e
 
 -- FROM THE FAILURE TO THE REFUSAL
@@ -368,7 +368,8 @@ module _ (p : System) where
       let test = by-test (may-end x) (λ h. absurd (f .fails h)) (λ h. h) in
       refused-there rs [] x 2 (f .good) (rw append-nil (f .are)) (end-by-test x ∙ cond-false _ _ test)
 
-pub fails-refused : (p : System) (rs : List Record) (n : ℕ) → Certificate-fails p rs n → cert-from p rs nothing-read ≡ refused n
+pub fails-refused : (p : System) (rs : List Record) (n : ℕ) → Certificate-fails p rs n → components-from p components-start rs ≡ refused n
+unfolding components-from
 fails-refused p rs _ (stray-record f) = first-refused p rs 2 f (stray-refused p (f .fails))
 fails-refused p rs _ (ends-early f) = end-refused p rs f
 fails-refused p rs _ (out-of-range f) = first-refused p rs 3 f (out-refused p (f .fails))

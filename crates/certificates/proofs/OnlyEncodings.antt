@@ -25,7 +25,7 @@ use Rattle.pairs.specs.Listing.{pair-record, pair-records}
 use Rattle.polynomials.specs.Polynomials.{Weight, Weighting}
 use Rattle.polynomials.specs.Judging.{is-none}
 use Rattle.certificates.specs.Components.{Component, no-weighting, with-pair, last-weighting, on-last, add-weight, add-marked, with-weight, with-marked}
-use Rattle.certificates.specs.CertificateReading.{Certificate-reading, going-on, most-certificate-bytes, with-begun, components-of, has-weighting, weights-below, cert-step, cert-end, cert-from, read-certificate}
+use Rattle.certificates.specs.CertificateReading.{Certificate-reading, going-on, most-certificate-bytes, with-begun, components-of, has-weighting, weights-below, cert-step, cert-end, cert-from, components-from, read-certificate}
 use Rattle.certificates.specs.Encoding.{weight-records, weighting-records, component-records, certificate-bytes, Good-certificate}
 use Rattle.certificates.proofs.Rising.{rising-snoc}
 use Rattle.certificates.proofs.OneRecord.{nothing-read, begun-with, Reads, reads-component, reads-pair, reads-weight, reads-marked, passes-reads}
@@ -206,16 +206,18 @@ module _ (p : System) where
 
 -- whatever the records: if they pass, they are those of the components read, and those are shaped
 module _ (p : System) (rs : List Record) (cs : List Component)
-    (e : cert-from p rs nothing-read ≡ passed cs) where
+    (e : components-from p components-start rs ≡ passed cs) where
   pub records-only : rs ≡ component-records 0 cs
+  unfolding components-from
   records-only = from-there p rs [] _ cs at-start e .records
 
   pub records-shaped : Each (Shaped p) cs
+  unfolding components-from
   records-shaped = from-there p rs [] _ cs at-start e .shaped
 
 module _ (p : System) (ds : List ℕ) (cs : List Component) (e : read-certificate p ds ≡ passed cs) where
   read-parts : (length-bad most-certificate-bytes ds ≡ false)
-      × (cert-from p (all-records ds) nothing-read ≡ passed cs)
+      × (components-from p components-start (all-records ds) ≡ passed cs)
   unfolding read-certificate
   read-parts = test-failed (length-bad most-certificate-bytes ds) _ 1 e
 

@@ -14,14 +14,14 @@ use Rattle.rewriting.proofs.Basics.{Each, each-head, each-tail}
 use Rattle.records.specs.declared.Record.{Record}
 use Rattle.records.specs.Outcomes.{passed}
 use Rattle.records.specs.Records.{all-record-bytes, length-bad}
-use Rattle.records.specs.Order.{W-weight, M-marked, rows, entry, order, when-in, lets, may-follow, last-row}
+use Rattle.records.specs.Order.{W-weight, M-marked, components-start, rows, entry, order, when-in, lets, may-follow, last-row}
 use Rattle.records.proofs.Bytes.{records-of-bytes, length-of-bytes}
 use Rattle.packs.specs.Encoding.{Good-pack}
 use Rattle.pairs.specs.Listing.{pair-records}
 use Rattle.polynomials.specs.Polynomials.{Weight, Weighting}
 use Rattle.polynomials.specs.Judging.{is-none}
 use Rattle.certificates.specs.Components.{Component, no-weighting, with-pair, last-weighting, on-last, add-weight, add-marked, with-weight, with-marked, Pairs-rise, Weights-rise}
-use Rattle.certificates.specs.CertificateReading.{Certificate-reading, going-on, most-certificate-bytes, most-weightings, with-begun, components-of, has-weighting, weights-below, cert-from, read-certificate}
+use Rattle.certificates.specs.CertificateReading.{Certificate-reading, going-on, most-certificate-bytes, most-weightings, with-begun, components-of, has-weighting, weights-below, cert-from, components-from, read-certificate}
 use Rattle.certificates.specs.Encoding.{weight-records, weighting-records, component-records, certificate-bytes, Good-certificate}
 use Rattle.certificates.proofs.Rising.{below-next}
 use Rattle.certificates.proofs.OneRecord.{nothing-read, begun-with, reads-row, Reads, reads-component, reads-pair, reads-weight, reads-marked, reads-passes}
@@ -196,8 +196,8 @@ module _ (p : System) where
 
   -- the records of components that are shaped are read back
   pub records-back : (cs : List Component) → Each (Shaped p) cs
-      → cert-from p (component-records 0 cs) nothing-read ≡ passed cs
-  unfolding components-of with-begun cert-from
+      → components-from p components-start (component-records 0 cs) ≡ passed cs
+  unfolding components-of with-begun cert-from components-from
   records-back cs s =
       let back = components-back cs nothing-read 0 at-start refl s in
       (rw append-nil at (all-read [] (back .3))) ∙ ready-end (back .1) ∙ ap passed (back .2)

@@ -14,12 +14,12 @@ use Rattle.rewriting.proofs.Basics.{and-both}
 use Rattle.records.specs.declared.Record.{Record}
 use Rattle.records.specs.Outcomes.{Outcome, refused, passed, after, refusal}
 use Rattle.records.specs.Records.{all-records, length-bad}
-use Rattle.records.specs.Order.{certificate-edge, certificate-start, rows, index, obeys}
+use Rattle.records.specs.Order.{certificate-edge, components-start, certificate-start, rows, index, obeys}
 use Rattle.records.proofs.Outcomes.{test-held, test-failed, after-passed, after-same, after-after, Refused-within, test-within, refusal-within, wider, within}
 use Rattle.records.proofs.Bytes.{records-append}
 use Rattle.records.proofs.Table.{may-follow-stands, starts-agree}
 use Rattle.certificates.specs.Components.{Component}
-use Rattle.certificates.specs.CertificateReading.{Certificate-reading, most-certificate-bytes, has-weighting, component-read, pair-read, weight-read, marked-read, inside-read, cert-step, cert-end, cert-from, cert-steps, read-certificate}
+use Rattle.certificates.specs.CertificateReading.{Certificate-reading, most-certificate-bytes, has-weighting, component-read, pair-read, weight-read, marked-read, inside-read, cert-step, cert-end, cert-from, cert-steps, components-from, read-certificate}
 use Rattle.certificates.proofs.OneRecord.{nothing-read, passes-reads, reads-row}
 
 -- THE NUMBERS
@@ -98,21 +98,25 @@ module _ (p : System) (ds : List ℕ) where
   unfolding read-certificate length-bad
   certificate-too-long h = rw (lt-ltb 24576 (length ds) h)
 
+  pub length-tested : length-bad most-certificate-bytes ds ≡ false → read-certificate p ds ≡ components-from p components-start (all-records ds)
+  unfolding read-certificate
+  length-tested h = rw h
+
   -- and for nothing else
   pub length-first : length-bad most-certificate-bytes ds ≡ false → Refused-within 2 7 (read-certificate p ds)
-  unfolding read-certificate
+  unfolding components-from read-certificate
   length-first h = rw h (in-table-within (from-tabled p (all-records ds) _))
 
   -- if refused, then with a number from 1 to 7, so that 0 is no refusal
   pub read-range : Refused-within 1 7 (read-certificate p ds)
-  unfolding read-certificate
+  unfolding components-from read-certificate
   read-range = test-within (length-bad most-certificate-bytes ds) (refused 1) _ (search within) (wider (in-table-within (from-tabled p (all-records ds) _)))
 
   pub certificate-refusal-range : refusal (read-certificate p ds) ≤ 7
   certificate-refusal-range = refusal-within read-range
 
   pub certificate-refusals : member (refusal (read-certificate p ds)) (0 ∷ 1 ∷ 2 ∷ 3 ∷ 7 ∷ []) ≡ true
-  unfolding read-certificate
+  unfolding components-from read-certificate
   certificate-refusals = in-table-number (length-bad most-certificate-bytes ds) (from-tabled p (all-records ds) _)
 
 -- A REFUSAL STANDS whatever follows the record at which it was met
@@ -135,7 +139,7 @@ module _ (p : System) where
   -- in bytes: a file of whole records that is refused within itself is refused so with whatever after it, the length allowing
   pub read-stands : (ds more : List ℕ) (n : ℕ) → length ds % 8 ≡ 0 → length-bad most-certificate-bytes (ds ++ more) ≡ false
       → cert-steps p (all-records ds) nothing-read ≡ refused n → read-certificate p (ds ++ more) ≡ refused n
-  unfolding read-certificate
+  unfolding components-from read-certificate
   read-stands ds more n whole short e = rw (short, records-append ds more whole) (refusal-stands (all-records ds) (all-records more) _ n e)
 
   -- A CERTIFICATE THAT PASSES OBEYS THE TABLE
@@ -153,7 +157,7 @@ module _ (p : System) where
       (rw (next .0) at (records-obey rs y cs (next .1) (next .2) (step .2)))
 
   pub certificates-obey : (ds : List ℕ) (cs : List Component) → read-certificate p ds ≡ passed cs → obeys certificate-start certificate-edge (all-records ds) ≡ true
-  unfolding read-certificate
+  unfolding components-from read-certificate
   certificates-obey ds cs e =
       starts-agree certificate-edge (all-records ds)
       ∙ records-obey (all-records ds) _ cs (omega arith) (omega arith) (test-failed (length-bad most-certificate-bytes ds) _ 1 e .1)

@@ -108,8 +108,11 @@ unfoldable pub cert-steps : System → List Record → Certificate-reading → O
 cert-steps p [] x = passed x
 cert-steps p (r ∷ rs) x = after (cert-step p r x) (λ y. cert-steps p rs y)
 
+-- the components that stand in these records, where the table's row `row` comes before them
+unfoldable pub components-from : System → (row : ℕ) → List Record → Outcome (List Component)
+components-from p row rs = cert-from p rs (record { last = row; done = []; begun = none; due = 0 })
+
 -- the certificate of a system that was read
 unfoldable pub read-certificate : System → List ℕ → Outcome (List Component)
 read-certificate p ds =
-    cond (length-bad most-certificate-bytes ds) (refused 1)
-    (cert-from p (all-records ds) (record { last = components-start; done = []; begun = none; due = 0 }))
+    cond (length-bad most-certificate-bytes ds) (refused 1) (components-from p components-start (all-records ds))

@@ -9,20 +9,23 @@ use borrow.Author.Tests.{ltb-true, leb-true}
 use Rattle.rewriting.specs.Terms.{System}
 use Rattle.rewriting.proofs.Basics.{and-left, and-right, Each, each-head, each-at}
 use Rattle.records.specs.Outcomes.{passed}
+use Rattle.records.specs.Records.{all-records}
+use Rattle.records.specs.Order.{components-start}
 use Rattle.packs.specs.Encoding.{Good-pack}
 use Rattle.pairs.specs.Listing.{a-pair}
 use Rattle.polynomials.specs.Polynomials.{Weight, Weighting}
 use Rattle.certificates.specs.Components.{Component, no-component, Weights-rise}
-use Rattle.certificates.specs.CertificateReading.{read-certificate, is-place}
+use Rattle.certificates.specs.CertificateReading.{is-place}
+use Rattle.certificates.specs.CertificateReading as certificates
 use Rattle.certificates.specs.Encoding.{no-weight}
 use Rattle.certificates.proofs.Shapes.{Weighting-shaped, At-place}
-use Rattle.certificates.proofs.OnlyEncodings.{certificate-read}
+use Rattle.certificates.proofs.OnlyEncodings.{records-only}
 use Rattle.judging.specs.Shown.{nth}
 use Rattle.partition.specs.Working.{All-pairs, Judgeable}
 use Rattle.partition.proofs.FromRead.{shape}
 use Rattle.checker.specs.Working.{Fillable, Component-fits, Components-from}
 
-module _ (p : System) (ds : List ℕ) (cs : List Component) (read : read-certificate p ds ≡ passed cs) where
+module _ (p : System) (ds : List ℕ) (cs : List Component) (read : certificates.components-from p components-start (all-records ds) ≡ passed cs) where
   module _ (g : Good-pack p) where
     fillable : (ws : List Weight) → Weights-rise ws → Each (At-place p) ws → Fillable ws
     unfolding is-place
@@ -56,7 +59,7 @@ module _ (p : System) (ds : List ℕ) (cs : List Component) (read : read-certifi
         }
 
 -- all components, for the judging of each in turn
-pub all-fit : (p : System) (ds : List ℕ) (cs : List Component) → read-certificate p ds ≡ passed cs → Good-pack p → (i : ℕ) → i < length cs → Component-fits p (getD cs i no-component)
+pub all-fit : (p : System) (ds : List ℕ) (cs : List Component) → certificates.components-from p components-start (all-records ds) ≡ passed cs → Good-pack p → (i : ℕ) → i < length cs → Component-fits p (getD cs i no-component)
 unfolding nth
 all-fit p ds cs read g i h = read-fits p ds cs read g i h
 
@@ -68,6 +71,6 @@ components-from p ds components rules ar ss ns ms j =
       stored = j .stored;
       all = j .all;
       counted = j .counted;
-      are = certificate-read p ds (j .all) (j .read);
+      are = records-only p (all-records ds) (j .all) (j .read);
       fit = all-fit p ds (j .all) (j .read) (j .stored .good);
     }

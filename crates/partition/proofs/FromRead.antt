@@ -10,15 +10,17 @@ use Rattle.rewriting.specs.Pairs.{Pair, is-pair}
 use Rattle.rewriting.proofs.Basics.{Each, each-nil, each-cons, each-append, each-at}
 use Rattle.rewriting.proofs.Pairs.{pair-rule, pair-place}
 use Rattle.records.specs.Outcomes.{passed}
+use Rattle.records.specs.Records.{all-records}
+use Rattle.records.specs.Order.{components-start}
 use Rattle.records.proofs.Bytes.{length-of-records}
 use Rattle.terms.proofs.Parsing.{length-flat}
 use Rattle.packs.specs.Encoding.{Good-pack}
 use Rattle.pairs.specs.Listing.{a-pair}
 use Rattle.certificates.specs.Components.{Component, no-component}
-use Rattle.certificates.specs.CertificateReading.{read-certificate}
+use Rattle.certificates.specs.CertificateReading.{most-certificate-bytes, components-from}
 use Rattle.certificates.proofs.Shapes.{Shaped}
 use Rattle.certificates.proofs.Encoding.{components-few}
-use Rattle.certificates.proofs.OnlyEncodings.{certificate-shaped, certificate-read, length-within}
+use Rattle.certificates.proofs.OnlyEncodings.{records-shaped, records-only}
 use Rattle.judging.specs.Judge.{all-pairs}
 use Rattle.judging.specs.Shown.{nth}
 use Rattle.partition.specs.Working.{All-pairs, All-small}
@@ -40,25 +42,24 @@ unfolding all-pairs
 shaped-pairs p each-nil = each-nil
 shaped-pairs p (each-cons c cs h hs) = each-append (h .in-order .are-pairs) (shaped-pairs p hs)
 
-module _ (p : System) (ds : List ℕ) (cs : List Component) (read : read-certificate p ds ≡ passed cs) where
+module _ (p : System) (ds : List ℕ) (cs : List Component) (read : components-from p components-start (all-records ds) ≡ passed cs) where
   pub shape : (i : ℕ) → i < length cs → Shaped p (nth cs i)
   unfolding nth
-  shape i h = each-at no-component (certificate-shaped p ds cs read) i h
+  shape i h = each-at no-component (records-shaped p (all-records ds) cs read) i h
 
   pub read-are : (i : ℕ) → i < length cs → (q : Pair) → List·Memᴰ q (nth cs i .pairs) → is-pair p q ≡ true
   read-are i h q m = each-member (shape i h .in-order .are-pairs) m
 
-  pub read-few : length cs < 65535
-  read-few =
+  pub read-few : length ds ≤ most-certificate-bytes → length cs < 65535
+  read-few short =
       let a = components-few 0 cs in
       let b = length-of-records ds in
-      let c = ap length (certificate-read p ds cs read) in
-      let d = length-within p ds cs read in
+      let c = ap length (records-only p (all-records ds) cs read) in
       omega arith
 
   pub read-pairs : All-pairs p (all-pairs cs)
   unfolding All-pairs
-  read-pairs k h = each-at (a-pair 0 0) (shaped-pairs p (certificate-shaped p ds cs read)) k h
+  read-pairs k h = each-at (a-pair 0 0) (shaped-pairs p (records-shaped p (all-records ds) cs read)) k h
 
   pub read-small : Good-pack p → All-small (all-pairs cs)
   unfolding All-small All-pairs

@@ -16,7 +16,7 @@ use Rattle.pairs.specs.Listing.{a-pair, pairs}
 use Rattle.pair_finder.specs.Walking.{first-pairs}
 use Rattle.pair_finder.proofs.FromStore.{stored-pairs}
 use Rattle.certificates.specs.Components.{Component}
-use Rattle.certificates.proofs.OnlyEncodings.{certificate-read}
+use Rattle.certificates.proofs.OnlyEncodings.{records-only}
 use Rattle.judging.specs.Judges.{plain}
 use Rattle.judging.specs.Judge.{all-pairs, each-once, back-arc}
 use Rattle.entries.specs.declared.Entry.{Entry}
@@ -44,7 +44,7 @@ module _ {ds : List ℕ} {components rules : ℕ} {ar ss ns ms : List ℕ} (j : 
   small = each-by (a-pair 0 0) (all-pairs cs) (read-small p ds cs (j .read) (j .kept .stored .good))
 
   are : es ≡ entries-from 0 cs
-  are = ap (entries-of 0) (certificate-read p ds cs (j .read)) ∙ entries-are 0 0 cs small
+  are = ap (entries-of 0) (records-only p (all-records ds) cs (j .read)) ∙ entries-are 0 0 cs small
 
   name : map named es ≡ all-pairs cs
   name = ap (map named) are ∙ all-named 0 cs
@@ -94,6 +94,6 @@ module _ {ds : List ℕ} {components rules : ℕ} {ar ss ns ms : List ℕ} (j : 
         let s = j .kept .stored in
         let g = s .good .rule-count in
         let e =
-        back-means p cs ls rules (read-few p ds cs (j .read)) (λ s k. lows s (omega (arith, j .kept .stored .rules-are)) ∙ ap (lowest s) are)
+        back-means p cs ls rules (read-few p ds cs (j .read) (j .file .short)) (λ s k. lows s (omega (arith, j .kept .stored .rules-are)) ∙ ap (lowest s) are)
         (λ i k q m. omega (arith, pair-rule p q (read-are p ds cs (j .read) i k q m), j .kept .stored .rules-are)) in
         then-arcs ∙ ap (λ (b : Bool). cond b 9 0) (sym e ∙ ap (any-back p ls rules) (sym are) ∙ h)

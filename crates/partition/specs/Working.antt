@@ -11,13 +11,15 @@ use Rattle.rewriting.specs.Pairs.{Pair, is-pair}
 use Rattle.records.specs.declared.Answer.{Answer}
 use Rattle.records.specs.Outcomes.{passed, refusal}
 use Rattle.records.specs.Answers.{answer-outcome}
+use Rattle.records.specs.Records.{all-records}
+use Rattle.records.specs.Order.{components-start}
 use Rattle.records.specs.Files.{Whole}
 use Rattle.packs.specs.PackReading.{most-rules}
 use Rattle.pair_finder.specs.Walking.{Kept-pack, System-kept, Pair-kept}
 use Rattle.pairs.specs.Listing.{a-pair, pairs, count-pair}
 use Rattle.pairs.specs.Arcs.{arc}
 use Rattle.certificates.specs.Components.{Component}
-use Rattle.certificates.specs.CertificateReading.{most-certificate-bytes, read-certificate}
+use Rattle.certificates.specs.CertificateReading.{most-certificate-bytes, components-from}
 use Rattle.judging.specs.Judges.{plain}
 use Rattle.judging.specs.Judge.{all-pairs, each-once, back-arc}
 use Rattle.entries.specs.declared.Entry.{Entry}
@@ -137,7 +139,7 @@ pub record Judgeable (certificate : List ℕ) (components rules : ℕ) (arities 
   pub file : Whole most-certificate-bytes certificate
   pub kept : System-kept rules arities starts nodes flags
   pub all : List Component
-  pub read : read-certificate (kept .system) certificate ≡ passed all
+  pub read : components-from (kept .system) components-start (all-records certificate) ≡ passed all
   pub counted : components ≡ length all
 
 -- 8, 9, or neither

@@ -12,7 +12,8 @@ use Rattle.records.specs.declared.Refusal.{Refusal}
 use Rattle.records.specs.declared.Answer.{Answer}
 use Rattle.records.specs.declared.Answer.the-variants.{Passed, Refused}
 use Rattle.records.specs.Outcomes.{Outcome, refused, passed, refusal}
-use Rattle.records.specs.Records.{length-bad, all-bytes}
+use Rattle.records.specs.Records.{all-records, length-bad, all-bytes}
+use Rattle.records.specs.Order.{components-start}
 use Rattle.records.specs.Answers.{number-of, answer-outcome}
 use Rattle.records.proofs.Outcomes.{number-some}
 use Rattle.pack_reader.specs.declared.Counts.{Counts}
@@ -20,7 +21,8 @@ use Rattle.packs.specs.PackReading as packs
 use Rattle.packs.specs.PackReading.{read-pack}
 use Rattle.certificates.specs.Components.{Component}
 use Rattle.certificates.specs.CertificateReading as certificates
-use Rattle.certificates.specs.CertificateReading.{read-certificate}
+use Rattle.certificates.specs.CertificateReading.{components-from}
+use Rattle.certificates.proofs.Refusals.{length-tested}
 use Rattle.certificate_reader.specs.Working.{Certificate-read}
 use Rattle.judging.specs.Judges.{plain}
 use Rattle.judging.specs.Judge.{judged}
@@ -103,20 +105,24 @@ certificate-found (passed cs) r n a h =
     record { all = cs; is = refl; counted = cc }
 
 module _ (bs ds : List ℕ) (c : Counts) (ar ss ns ms : List ℕ) (k : Kept-as (read-pack bs) c ar ss ns ms) where
-  pub certificate-stops : (x : Refusal) → read-certificate (k .system) ds ≡ refused (number-of x) → check bs ds ≡ number-of x
-  certificate-stops x e = then-certificate bs ds (k .system) (number-of x) (k .is) e
+  abbrev components-read : Outcome (List Component)
+  components-read = components-from (k .system) components-start (all-records ds)
 
-  module _ (components : ℕ) (w : Found-as (read-certificate (k .system) ds) components) where
-    abbrev pub judgeable : Judgeable (k .system) ds components (c .rules) ar ss ns ms
-    judgeable = record { symbols = c .symbols; stored = k .stored; all = w .all; read = w .is; counted = w .counted }
+  abbrev pub judgeable : (components : ℕ) → Found-as components-read components → Judgeable (k .system) ds components (c .rules) ar ss ns ms
+  judgeable components w = record { symbols = c .symbols; stored = k .stored; all = w .all; read = w .is; counted = w .counted }
 
-    check-is : check bs ds ≡ judged (k .system) (plain (k .system)) (w .all)
-    check-is = check-of-read bs ds (k .system) (w .all) (k .is) (w .is)
+  module _ (long : length-bad certificates.most-certificate-bytes ds ≡ false) where
+    pub certificate-stops : (x : Refusal) → components-read ≡ refused (number-of x) → check bs ds ≡ number-of x
+    certificate-stops x e = then-certificate bs ds (k .system) (number-of x) (k .is) (length-tested (k .system) ds long ∙ e)
 
-    pub judge-stops : (a : Answer) (x : Refusal) → Judged-as (judged (k .system) (plain (k .system)) (w .all)) a → a ≡ Refused x → check bs ds ≡ number-of x
-    unfolding Judged-as
-    judge-stops a x h e = check-is ∙ sym h ∙ ap (λ (y : Answer). refusal (answer-outcome y)) e
+    module _ (components : ℕ) (w : Found-as components-read components) where
+      check-is : check bs ds ≡ judged (k .system) (plain (k .system)) (w .all)
+      check-is = check-of-read bs ds (k .system) (w .all) (k .is) (length-tested (k .system) ds long ∙ w .is)
 
-    pub judge-passes : (a : Answer) (n : ℕ) → Judged-as (judged (k .system) (plain (k .system)) (w .all)) a → a ≡ Passed n → check bs ds ≡ 0
-    unfolding Judged-as
-    judge-passes a n h e = check-is ∙ sym h ∙ ap (λ (y : Answer). refusal (answer-outcome y)) e
+      pub judge-stops : (a : Answer) (x : Refusal) → Judged-as (judged (k .system) (plain (k .system)) (w .all)) a → a ≡ Refused x → check bs ds ≡ number-of x
+      unfolding Judged-as
+      judge-stops a x h e = check-is ∙ sym h ∙ ap (λ (y : Answer). refusal (answer-outcome y)) e
+
+      pub judge-passes : (a : Answer) (n : ℕ) → Judged-as (judged (k .system) (plain (k .system)) (w .all)) a → a ≡ Passed n → check bs ds ≡ 0
+      unfolding Judged-as
+      judge-passes a n h e = check-is ∙ sym h ∙ ap (λ (y : Answer). refusal (answer-outcome y)) e

@@ -42,7 +42,7 @@ fn judge_files(pack: &[u8], certificate: &[u8]) -> Checked
         PackRead::Read(c) => {
             let symbols = c.symbols;
             let rules = c.rules;
-            match certificate_reader::read_certificate(
+            match certificate_reader::read_components(
                 certificate,
                 symbols,
                 rules,

@@ -1,9 +1,12 @@
 -- `teldyzhom::judge_files` meets its contract: lengths, the pack, the certificate, the judgement, each with its answer.
-use mathlib.Core.Path.{sym}
+use mathlib.Core.Path.{_≡_, sym}
+use mathlib.Core.Bool.{false}
 use native.Mathlib.Omega.{arith}
 use borrow.Author.Needs.{needs}
+use Rattle.records.specs.Records.{all-records, length-bad}
+use Rattle.records.specs.Order.{components-start}
 use Rattle.packs.specs.PackReading.{read-pack}
-use Rattle.certificates.specs.CertificateReading.{read-certificate}
+use Rattle.certificates.specs.CertificateReading.{most-certificate-bytes, components-from}
 use Rattle.pair_finder.proofs.FromStore.{stored-laid}
 use Rattle.teldyzhom.proofs.Entering.{Kept-as, pack-refused, pack-kept}
 use Rattle.teldyzhom.proofs.Checks.{too-long, no-multiple, length-good, pack-stops, certificate-refused, Found-as, certificate-found, certificate-stops, judgeable, judge-stops, judge-passes}
@@ -17,6 +20,10 @@ reading c = c .before .before .before .before .before .before
 abbrev start : tie.After-read-pack → tie.Start
 start c = c .before .before .before .before .before .before .before .before .before
 
+-- the certificate's length was tested before
+long : (c : tie.After-read-pack) → length-bad most-certificate-bytes (start c .args .certificate .now) ≡ false
+long c = let test = c .before .before .before .before .before in length-good _ (test .before .if1 .left) (test .if2 .left)
+
 -- the pack was read
 kept : (c : tie.After-c) →
     let l = reading c .read-pack .last .1 in
@@ -24,18 +31,18 @@ kept : (c : tie.After-c) →
 kept c = pack-kept _ _ _ _ _ _ _ (reading c .read-pack .ensures) (c .c .given .1)
 
 -- the certificate was read
-abbrev counted : tie.After-read-certificate → tie.After-c
+abbrev counted : tie.After-read-components → tie.After-c
 counted c = c .before .before .before .before .before .before
 
-abbrev told : tie.After-components → tie.After-read-certificate
+abbrev told : tie.After-components → tie.After-read-components
 told c = c .before .before
 
-found : (c : tie.After-components) → let q = counted (told c) in Found-as (read-certificate (kept q .system) (start (reading q) .args .certificate .now)) (c .components .given .0 .0)
+found : (c : tie.After-components) → let q = counted (told c) in Found-as (components-from (kept q .system) components-start (all-records (start (reading q) .args .certificate .now))) (c .components .given .0 .0)
 found c =
     let q = counted (told c) in
-    certificate-found _ _ _ (told c .read-certificate .ensures (kept q .system) (kept q .stored)) (c .components .given .1)
+    certificate-found _ _ _ (told c .read-components .ensures (kept q .system) (kept q .stored)) (c .components .given .1)
 
-to-read : tie.Need-read-certificate-requires
+to-read : tie.Need-read-components-requires
 to-read c κs =
     let q = c .before .before .before .before .before in
     let r = reading q in
@@ -77,15 +84,14 @@ returns-2 c = sym (no-multiple _ _ (c .if2 .taken))
 returns-3 : tie.Need-returns-3
 returns-3 c =
     let r = c .before .before .before .before .before .before .before in
-    let test = r .before .before .before .before .before in
-    sym (pack-stops _ _ (c .before .x .given .0 .0) (length-good _ (test .before .if1 .left) (test .if2 .left)) (pack-refused _ _ _ _ _ _ _ (r .read-pack .ensures) (c .before .x .given .1)))
+    sym (pack-stops _ _ (c .before .x .given .0 .0) (long r) (pack-refused _ _ _ _ _ _ _ (r .read-pack .ensures) (c .before .x .given .1)))
 
 returns-4 : tie.Need-returns-4
 returns-4 c =
     let t = c .before .before .before in
     let q = counted t in
     let k = kept q in
-    sym (certificate-stops _ _ _ _ _ _ _ k (c .before .x2 .given .0 .0) (certificate-refused _ _ _ (t .read-certificate .ensures (k .system) (k .stored)) (c .before .x2 .given .1)))
+    sym (certificate-stops _ _ _ _ _ _ _ k (long (reading q)) (c .before .x2 .given .0 .0) (certificate-refused _ _ _ (t .read-components .ensures (k .system) (k .stored)) (c .before .x2 .given .1)))
 
 returns-5 : tie.Need-returns-5
 returns-5 c =
@@ -93,7 +99,7 @@ returns-5 c =
     let f = g .before .before .before .before .before .before in
     let q = counted (told f) in
     let k = kept q in
-    sym (judge-stops _ _ _ _ _ _ _ k _ (found f) _ _ (g .judge .ensures (k .system) (judgeable _ _ _ _ _ _ _ k _ (found f))) (c .before .x3 .given .1))
+    sym (judge-stops _ _ _ _ _ _ _ k (long (reading q)) _ (found f) _ _ (g .judge .ensures (k .system) (judgeable _ _ _ _ _ _ _ k _ (found f))) (c .before .x3 .given .1))
 
 returns-6 : tie.Need-returns-6
 returns-6 c =
@@ -101,7 +107,7 @@ returns-6 c =
     let f = g .before .before .before .before .before .before in
     let q = counted (told f) in
     let k = kept q in
-    sym (judge-passes _ _ _ _ _ _ _ k _ (found f) _ _ (g .judge .ensures (k .system) (judgeable _ _ _ _ _ _ _ k _ (found f))) (c .enum-told .given .1))
+    sym (judge-passes _ _ _ _ _ _ _ k (long (reading q)) _ (found f) _ _ (g .judge .ensures (k .system) (judgeable _ _ _ _ _ _ _ k _ (found f))) (c .enum-told .given .1))
 
 pub judge-files-spec : {M : Type 1} → statement M
 judge-files-spec =

@@ -1,4 +1,4 @@
--- `certificate_reader::read_certificate` meets its contract. The loop's invariant: the state is sound, and for each system that
+-- `certificate_reader::read_components` meets its contract. The loop's invariant: the state is sound, and for each system that
 -- the arrays hold it tells what the first i records are.
 use mathlib.Core.Path.{_≡_, sym, ap, _∙_, subst}
 use mathlib.Core.Bool.{true}
@@ -25,8 +25,8 @@ use Rattle.certificate_reader.specs.Working.{Sound-state, Steps-as, Goes
 use Rattle.certificate_reader.proofs.Mirrored.{start-sound}
 use Rattle.certificate_reader.proofs.Turns.{Told, told-nothing, told-refusal, told-next}
 use Rattle.certificate_reader.proofs.Ends.{ends-refused, ends-stray, ends-early, ends-read}
-use Rattle.certificate_reader.proofs.read_certificate.Statement.{statement}
-use Rattle.certificate_reader.proofs.read_certificate.Tie as tie
+use Rattle.certificate_reader.proofs.read_components.Statement.{statement}
+use Rattle.certificate_reader.proofs.read_components.Tie as tie
 
 abbrev Inv-loop : tie.InvT-loop
 Inv-loop certificate symbols rules arities starts nodes flags n s₀ i₀ s i =
@@ -39,9 +39,8 @@ stray : tie.Need-returns Inv-loop μ-loop
 stray c =
     let turn = c .before .before .before in
     let l = turn .before .loop in
-    let pre = turn .before .before .before .before .before .before .before .pre in
     λ p stored.
-    ends-stray p _ (pre .0) (pre .1) (l .i) (l .s) (l .inv .3 p stored) (turn .loop-test .taken)
+    ends-stray p _ (l .i) (l .s) (l .inv .3 p stored) (turn .loop-test .taken)
     (stray-at _ (8 * l .i) (l .s .last) (l .s .due) (l .s .weighted) (sym (c .before .before .read-wanted .ensures) ∙ c .enum-told .given .1))
 
 -- a record r that may stand was read
@@ -105,9 +104,8 @@ module _ (c : tie.After-step Inv-loop μ-loop) where
 refused : tie.Need-returns-2 Inv-loop μ-loop
 refused c =
     let done = c .before .before .before in
-    let pre = start done .pre in
     λ p stored.
-    ends-refused p _ (pre .0) (pre .1) _
+    ends-refused p _ _
     (told-refusal p (all done) (i done) (s done) (told done p stored) (r done) (this done) _ (answered done p stored _ (c .before .x .given .1)))
 
 again : tie.Need-loop-again Inv-loop μ-loop
@@ -128,20 +126,18 @@ read : tie.Need-returns-3 Inv-loop μ-loop
 unfolding column-at
 read c =
     let l = c .before .before .before .loop in
-    let pre = c .before .before .before .before .before .before .before .before .before .pre in
     λ p stored.
-    ends-read p _ (pre .0) (pre .1) (l .i) (l .s) (l .inv .3 p stored) (c .before .before .loop-test .left) (sym (c .before .may-follow .ensures) ∙ c .if1 .taken)
+    ends-read p _ (l .i) (l .s) (l .inv .3 p stored) (c .before .before .loop-test .left) (sym (c .before .may-follow .ensures) ∙ c .if1 .taken)
 
 early : tie.Need-returns-4 Inv-loop μ-loop
 unfolding column-at
 early c =
     let l = c .before .before .before .loop in
-    let pre = c .before .before .before .before .before .before .before .before .before .pre in
     λ p stored.
-    ends-early p _ (pre .0) (pre .1) (l .i) (l .s) (l .inv .3 p stored) (c .before .before .loop-test .left) (sym (c .before .may-follow .ensures) ∙ c .if1 .left)
+    ends-early p _ (l .i) (l .s) (l .inv .3 p stored) (c .before .before .loop-test .left) (sym (c .before .may-follow .ensures) ∙ c .if1 .left)
 
-pub read-certificate-spec : {M : Type 1} → statement M
-read-certificate-spec =
+pub read-components-spec : {M : Type 1} → statement M
+read-components-spec =
     tie.close
     (tie.spec
     Inv-loop
