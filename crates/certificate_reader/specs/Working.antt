@@ -1,25 +1,29 @@
 -- How the code reads a certificate: a state of a few numbers. The contracts between our own functions speak of it; no promise
 -- to a user does.
 use mathlib.Core.Path.{_≡_}
-use mathlib.Core.Bool.{Bool, true, false, _&&_, _||_, not, cond}
-use mathlib.Core.List.{List, [], _∷_, _++_}
+use mathlib.Core.Bool.{true}
+use mathlib.Core.List.{List, []}
 use mathlib.Core.Option.{Option, none, some}
-use Prim.Native.Nat.{ℕ, zero, suc, _+_, _*_, _-_, _≤_, _<_}
-use lib.Dec.{ltb, leb, eqb}
-use lib.ListN.{length, getD, set}
+use Prim.Native.Nat.{ℕ, _+_, _*_, _≤_, _<_}
+use lib.Dec.{ltb}
+use lib.ListN.{length}
 use Rattle.rewriting.specs.Pairs.{Pair}
 use Rattle.records.specs.declared.Record.{Record}
 use Rattle.records.specs.declared.Answer.{Answer}
 use Rattle.records.specs.declared.Refusal.{Refusal}
 use Rattle.records.specs.Outcomes.{Outcome, refused, passed}
 use Rattle.records.specs.Answers.{number-of, answer-outcome}
+use Rattle.records.specs.Order.{index, may-follow}
+use Rattle.records.specs.Files.{Whole}
 use Rattle.records.specs.Rising.{last-below}
-use Rattle.polynomials.specs.Polynomials.{Weight, Weighting}
+use Rattle.packs.specs.PackReading.{most-symbols}
+use Rattle.pair_finder.specs.Walking.{Laid, Kept-pack}
+use Rattle.polynomials.specs.Polynomials.{Weighting}
 use Rattle.certificate_reader.specs.declared.State.{State}
 use Rattle.certificate_reader.specs.declared.Stepped.{Stepped}
 use Rattle.certificate_reader.specs.declared.Stepped.the-variants.{On, Refused as Stopped}
 use Rattle.certificates.specs.Components.{Component, last-weighting}
-use Rattle.certificates.specs.CertificateReading.{Certificate-reading, components-of, has-weighting}
+use Rattle.certificates.specs.CertificateReading.{Certificate-reading, most-certificate-bytes, components-of, has-weighting}
 
 -- two numbers as one that rises with them, where the second is below 65536; 0 stands for none, so a key is one more
 unfoldable pub key : (a b : ℕ) → ℕ
@@ -69,3 +73,54 @@ Goes-on s r = (u : State) → r ≡ On u → Sound-state u × (u .number ≤ s .
 unfoldable pub Certificate-read : Outcome (List Component) → Answer → Type 0
 Certificate-read (refused n) r = answer-outcome r ≡ refused n
 Certificate-read (passed cs) r = answer-outcome r ≡ passed (length cs)
+
+-- THE CONTRACTS: what each function is asked, and what it answers
+
+-- what `key` answers: the key, which is no more than 32 bits hold and one
+pub record Key-is (a b r : ℕ) : Type 0 where
+  pub is : r ≡ key a b
+  pub small : r ≤ 4294967296
+
+-- what one step answers: it goes on soundly, and it means what its record does
+pub record Stepped-as (s : State) (t : Stepped) (Means : Type 0) : Type 0 where
+  pub on : Goes-on s t
+  pub means : Means
+
+-- a P record is to be read while pairs are due
+pub record Pair-asked (s : State) (rules : ℕ) (starts nodes flags : List ℕ) : Type 0 where
+  pub laid : Laid starts nodes rules
+  pub flags-long : length flags ≡ most-symbols
+  pub due : 1 ≤ s .due
+
+-- a place of a symbol is asked for
+pub record Place-asked (symbols : ℕ) (arities : List ℕ) : Type 0 where
+  pub arities-long : length arities ≡ most-symbols
+  pub symbols-few : symbols ≤ most-symbols
+
+-- a place of a tuple symbol
+pub record Marked-place-asked (symbols : ℕ) (arities flags : List ℕ) : Type 0 where
+  pub place : Place-asked symbols arities
+  pub flags-long : length flags ≡ most-symbols
+
+-- a W record is to be read in a component with a weighting, and an M record
+pub record Weight-asked (s : State) (symbols : ℕ) (arities : List ℕ) : Type 0 where
+  pub place : Place-asked symbols arities
+  pub weighted : s .weighted ≡ true
+
+pub record Marked-asked (s : State) (symbols : ℕ) (arities flags : List ℕ) : Type 0 where
+  pub place : Marked-place-asked symbols arities flags
+  pub weighted : s .weighted ≡ true
+
+-- a record that the table lets stand is to be read
+pub record Step-asked (r : Record) (s : State) (symbols rules : ℕ) (arities starts nodes flags : List ℕ) : Type 0 where
+  pub symbols-few : symbols ≤ most-symbols
+  pub arrays : Kept-pack rules arities starts nodes flags
+  pub number-small : s .number < 65536
+  pub sound : Sound-state s
+  pub follows : may-follow (s .last) (index (r .kind)) (s .due) (s .weighted) ≡ true
+
+-- a certificate is to be read for a pack that is kept
+pub record Reading-asked (certificate : List ℕ) (symbols rules : ℕ) (arities starts nodes flags : List ℕ) : Type 0 where
+  pub file : Whole most-certificate-bytes certificate
+  pub symbols-few : symbols ≤ most-symbols
+  pub arrays : Kept-pack rules arities starts nodes flags

@@ -4,16 +4,12 @@ mod steps;
 use records::Answer;
 use records::Refusal;
 use records::Wanted;
-ghost use mathlib.Core.Path.{_≡_};
-ghost use Prim.Native.Nat.{_%_, _≤_, _<_};
-ghost use lib.ListN.{length};
 ghost use Rattle.rewriting.specs.Terms.{System};
 ghost use Rattle.records.specs.Records.{all-records};
 ghost use Rattle.records.specs.Order.{components-start};
 ghost use Rattle.pack_reader.specs.Stored.{Stored};
-ghost use Rattle.pair_finder.specs.Walking.{Laid};
 ghost use Rattle.certificates.specs.CertificateReading.{components-from};
-ghost use Rattle.certificate_reader.specs.Working.{Certificate-read};
+ghost use Rattle.certificate_reader.specs.Working.{Certificate-read, Reading-asked};
 
 // What has been read: the last record's row of the table, the components begun, the pairs still due of the last one,
 // whether it has a weighting, and the keys of its last P, W and M records (0 for none).
@@ -43,7 +39,7 @@ pub fn read_components(
     nodes: &[u8],
     defined: &[u8],
 ) -> Answer
-    requires { ⌜ (length (now certificate) % 8 ≡ 0) × (length (now certificate) ≤ 24576) × (symbols ≤ 64) × (length (now arities) ≡ 64) × Laid (now starts) (now nodes) rules × (length (now defined) ≡ 64) ⌝ }
+    requires { ⌜ Reading-asked (now certificate) symbols rules (now arities) (now starts) (now nodes) (now defined) ⌝ }
     ensures { λ r. ⌜ ((p : System) → Stored p symbols rules (now (arities .entry)) (now (starts .entry)) (now (nodes .entry)) (now (defined .entry)) → Certificate-read (components-from p components-start (all-records (now (certificate .entry)))) r) ⌝ }
 {
     let n = certificate.len() / 8;

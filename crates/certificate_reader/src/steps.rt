@@ -7,19 +7,19 @@ use records::Refusal;
 use terms::Marked;
 use terms::Symbol;
 ghost use mathlib.Core.Path.{_≡_};
-ghost use mathlib.Core.Bool.{true, _&&_};
+ghost use mathlib.Core.Bool.{_&&_};
 ghost use mathlib.Core.List.{List};
-ghost use Prim.Native.Nat.{ℕ, _≤_, _<_};
+ghost use mathlib.Core.Option.{some};
+ghost use Prim.Native.Nat.{ℕ, _<_};
 ghost use lib.Dec.{ltb, leb};
-ghost use lib.ListN.{length, getD};
+ghost use lib.ListN.{getD};
 ghost use Rattle.rewriting.specs.Terms.{System};
-ghost use Rattle.records.specs.Order.{index, may-follow};
+ghost use Rattle.records.specs.Order.{C-component, P-pair, W-weight, M-marked};
 ghost use Rattle.pack_reader.specs.Stored.{Stored};
-ghost use Rattle.pair_finder.specs.Walking.{Laid, is-defined};
+ghost use Rattle.pair_finder.specs.Walking.{is-defined};
 ghost use Rattle.certificates.specs.Components.{Component};
 ghost use Rattle.certificates.specs.CertificateReading.{Certificate-reading, cert-step, component-read, pair-read, weight-read, marked-read};
-ghost use Rattle.certificate_reader.specs.Working.{key, Sound-state, Mirrors, Goes-on, Steps-as};
-ghost use mathlib.Core.Option.{some};
+ghost use Rattle.certificate_reader.specs.Working.{Mirrors, Steps-as, Key-is, Stepped-as, Pair-asked, Place-asked, Marked-place-asked, Weight-asked, Marked-asked, Step-asked};
 
 // Document 01's limits on a component's pairs and weightings, as wide as the fields that hold them.
 const MOST_PAIRS: u16 = records::MOST_PAIRS as u16;
@@ -28,7 +28,7 @@ const MOST_WEIGHTINGS: u16 = 1;
 
 // Two numbers as one that rises with them.
 fn key(a: u16, b: u16) -> u64
-    ensures { λ r. ⌜ (r ≡ key a b) × (r ≤ 4294967296) ⌝ }
+    ensures { λ r. ⌜ Key-is a b r ⌝ }
 {
     65536 * (a as u64) + (b as u64) + 1
 }
@@ -36,8 +36,7 @@ fn key(a: u16, b: u16) -> u64
 // C: its number, weightings and pairs.
 fn component(r: Record, s: State) -> Stepped
     requires { ⌜ s .number < 65536 ⌝ }
-    ensures on { λ t. ⌜ Goes-on s t ⌝ }
-    ensures means { λ t. ⌜ ((x : Certificate-reading) → Mirrors s x → r .kind ≡ 67 → Steps-as (component-read r x) t) ⌝ }
+    ensures { λ t. ⌜ Stepped-as s t ((x : Certificate-reading) → Mirrors s x → r .kind ≡ C-component → Steps-as (component-read r x) t) ⌝ }
 {
     if r.one != 0 {
         return Stepped::Refused(Refusal::StrayRecord);
@@ -72,9 +71,8 @@ fn component(r: Record, s: State) -> Stepped
 
 // P: a rule and a place, rising; 7 where they name no pair.
 fn pair(r: Record, s: State, rules: usize, starts: &[u16], nodes: &[u8], defined: &[u8]) -> Stepped
-    requires { ⌜ Laid (now starts) (now nodes) rules × (length (now defined) ≡ 64) × (1 ≤ s .due) ⌝ }
-    ensures on { λ t. ⌜ Goes-on s t ⌝ }
-    ensures means { λ t. ⌜ ((p : System) (symbols : ℕ) (arities : List ℕ) (x : Certificate-reading) (c : Component) → Stored p symbols rules arities (now (starts .entry)) (now (nodes .entry)) (now (defined .entry)) → Mirrors s x → x .begun ≡ some c → r .kind ≡ 80 → Steps-as (pair-read p r x c) t) ⌝ }
+    requires { ⌜ Pair-asked s rules (now starts) (now nodes) (now defined) ⌝ }
+    ensures { λ t. ⌜ Stepped-as s t ((p : System) (symbols : ℕ) (arities : List ℕ) (x : Certificate-reading) (c : Component) → Stored p symbols rules arities (now (starts .entry)) (now (nodes .entry)) (now (defined .entry)) → Mirrors s x → x .begun ≡ some c → r .kind ≡ P-pair → Steps-as (pair-read p r x c) t) ⌝ }
 {
     if r.one != 0 {
         return Stepped::Refused(Refusal::StrayRecord);
@@ -102,7 +100,7 @@ fn pair(r: Record, s: State, rules: usize, starts: &[u16], nodes: &[u8], defined
 
 // The symbol's constant, or one of its arguments.
 fn is_place(arities: &[u8], symbols: usize, f: Symbol, i: u16) -> bool
-    requires { ⌜ (length (now arities) ≡ 64) × (symbols ≤ 64) ⌝ }
+    requires { ⌜ Place-asked symbols (now arities) ⌝ }
     ensures { λ r. ⌜ r ≡ (ltb (f .0) symbols && leb i (getD (now (arities .entry)) (f .0) 0)) ⌝ }
 {
     let a = f.0 as usize;
@@ -114,7 +112,7 @@ fn is_place(arities: &[u8], symbols: usize, f: Symbol, i: u16) -> bool
 
 // The same of a tuple symbol, which a defined symbol has.
 fn is_marked_place(arities: &[u8], symbols: usize, defined: &[u8], f: Marked, i: u16) -> bool
-    requires { ⌜ (length (now arities) ≡ 64) × (length (now defined) ≡ 64) × (symbols ≤ 64) ⌝ }
+    requires { ⌜ Marked-place-asked symbols (now arities) (now defined) ⌝ }
     ensures { λ r. ⌜ r ≡ ((ltb (f .0) symbols && leb i (getD (now (arities .entry)) (f .0) 0)) && is-defined (now (defined .entry)) (f .0)) ⌝ }
 {
     if !is_place(arities, symbols, Symbol(f.0), i) {
@@ -125,9 +123,8 @@ fn is_marked_place(arities: &[u8], symbols: usize, defined: &[u8], f: Marked, i:
 
 // W: a symbol, a place of it and the value there.
 fn weight(r: Record, s: State, symbols: usize, arities: &[u8]) -> Stepped
-    requires { ⌜ (length (now arities) ≡ 64) × (symbols ≤ 64) × (s .weighted ≡ true) ⌝ }
-    ensures on { λ t. ⌜ Goes-on s t ⌝ }
-    ensures means { λ t. ⌜ ((p : System) (rules : ℕ) (starts nodes defined : List ℕ) (x : Certificate-reading) (c : Component) → Stored p symbols rules (now (arities .entry)) starts nodes defined → Mirrors s x → x .begun ≡ some c → s .due ≡ 0 → r .kind ≡ 87 → Steps-as (weight-read p r x c) t) ⌝ }
+    requires { ⌜ Weight-asked s symbols (now arities) ⌝ }
+    ensures { λ t. ⌜ Stepped-as s t ((p : System) (rules : ℕ) (starts nodes flags : List ℕ) (x : Certificate-reading) (c : Component) → Stored p symbols rules (now (arities .entry)) starts nodes flags → Mirrors s x → x .begun ≡ some c → s .due ≡ 0 → r .kind ≡ W-weight → Steps-as (weight-read p r x c) t) ⌝ }
 {
     if r.one != 0 {
         return Stepped::Refused(Refusal::StrayRecord);
@@ -152,9 +149,8 @@ fn weight(r: Record, s: State, symbols: usize, arities: &[u8]) -> Stepped
 
 // M: the same of a tuple symbol.
 fn marked(r: Record, s: State, symbols: usize, arities: &[u8], defined: &[u8]) -> Stepped
-    requires { ⌜ (length (now arities) ≡ 64) × (length (now defined) ≡ 64) × (symbols ≤ 64) × (s .weighted ≡ true) ⌝ }
-    ensures on { λ t. ⌜ Goes-on s t ⌝ }
-    ensures means { λ t. ⌜ ((p : System) (rules : ℕ) (starts nodes : List ℕ) (x : Certificate-reading) (c : Component) → Stored p symbols rules (now (arities .entry)) starts nodes (now (defined .entry)) → Mirrors s x → x .begun ≡ some c → s .due ≡ 0 → r .kind ≡ 77 → Steps-as (marked-read p r x c) t) ⌝ }
+    requires { ⌜ Marked-asked s symbols (now arities) (now defined) ⌝ }
+    ensures { λ t. ⌜ Stepped-as s t ((p : System) (rules : ℕ) (starts nodes : List ℕ) (x : Certificate-reading) (c : Component) → Stored p symbols rules (now (arities .entry)) starts nodes (now (defined .entry)) → Mirrors s x → x .begun ≡ some c → s .due ≡ 0 → r .kind ≡ M-marked → Steps-as (marked-read p r x c) t) ⌝ }
 {
     if r.one != 0 {
         return Stepped::Refused(Refusal::StrayRecord);
@@ -188,9 +184,8 @@ pub fn step(
     nodes: &[u8],
     defined: &[u8],
 ) -> Stepped
-    requires { ⌜ (s .number < 65536) × (symbols ≤ 64) × (length (now arities) ≡ 64) × Laid (now starts) (now nodes) rules × (length (now defined) ≡ 64) × Sound-state s × (may-follow (s .last) (index (r .kind)) (s .due) (s .weighted) ≡ true) ⌝ }
-    ensures on { λ t. ⌜ Goes-on s t ⌝ }
-    ensures means { λ t. ⌜ ((p : System) (x : Certificate-reading) → Stored p symbols rules (now (arities .entry)) (now (starts .entry)) (now (nodes .entry)) (now (defined .entry)) → Mirrors s x → Steps-as (cert-step p r x) t) ⌝ }
+    requires { ⌜ Step-asked r s symbols rules (now arities) (now starts) (now nodes) (now defined) ⌝ }
+    ensures { λ t. ⌜ Stepped-as s t ((p : System) (x : Certificate-reading) → Stored p symbols rules (now (arities .entry)) (now (starts .entry)) (now (nodes .entry)) (now (defined .entry)) → Mirrors s x → Steps-as (cert-step p r x) t) ⌝ }
 {
     if r.kind == b'C' {
         return component(r, s);

@@ -7,6 +7,7 @@ use lib.ListN.{length, take, drop, length-append, length-drop, length-map}
 use lib.Seq.{take-take, drop-drop, take-add, take-at, drop-at, length-take-le}
 use Rattle.terms.specs.Sides.{Node}
 use Rattle.terms.specs.Kept.{code, codes, Kept, part}
+use Rattle.pack_reader.specs.Stored.{Same-before}
 use Rattle.pack_reader.proofs.NodeSteps.{codes-append}
 
 length-codes : (ns : List Node) → length (codes ns) ≡ length ns
@@ -46,10 +47,11 @@ middle : (z : List ℕ) (a n : ℕ) → a ≤ length z → take n (drop a z) ≡
 middle z a n h = sym (drop-at (take a z) (take n (drop a z)) a (length-take-le a z h)) ∙ ap (drop a) (sym (take-add a n z))
 
 -- bytes from a place on are written, and what is kept before it stays
-pub kept-before : (o z : List ℕ) (base a : ℕ) (ns : List Node) → length z ≡ length o → take base z ≡ take base o → a + length ns ≤ base → Kept o a ns → Kept z a ns
-kept-before o z base a ns l e h k =
+pub kept-before : (o z : List ℕ) (base a : ℕ) (ns : List Node) → Same-before base o z → a + length ns ≤ base → Kept o a ns → Kept z a ns
+kept-before o z base a ns untouched h k =
     let n = length ns in
-    let first : take (a + n) z ≡ take (a + n) o = sym (take-take (a + n) base z h) ∙ ap (take (a + n)) e ∙ take-take (a + n) base o h in
+    let l = untouched .long in
+    let first : take (a + n) z ≡ take (a + n) o = sym (take-take (a + n) base z h) ∙ ap (take (a + n)) (untouched .same) ∙ take-take (a + n) base o h in
     let w = k .within in
     record {
       within = omega arith;

@@ -16,7 +16,7 @@ use Rattle.terms.specs.Sides.{Node, variable, symbol, flat, side}
 use Rattle.terms.specs.Kept.{Kept, codes}
 use Rattle.terms.proofs.Parsing.{Node-fits, side-nodes}
 use Rattle.packs.specs.PackReading.{variable-count, rule-of}
-use Rattle.pack_reader.specs.Stored.{Run, node-steps, rule-judged, Rule-read}
+use Rattle.pack_reader.specs.Stored.{Run, node-steps, Same-before, rule-judged, Rule-read}
 use Rattle.packs.proofs.OneRecord.{node-row, rule-of-passed}
 use Rattle.packs.proofs.Places.{at-rule}
 use Rattle.pack_reader.proofs.NodeSteps.{Small}
@@ -57,13 +57,11 @@ module _ (ar arities : List ℕ) (are : take (length ar) arities ≡ ar) (few : 
       pub kept : Kept now base (flat (rule .left) ++ flat (rule .right))
       pub left-long : length (flat (rule .left)) ≡ b
       pub right-long : length (flat (rule .right)) ≡ c
-      pub same : length now ≡ length before
-      pub untouched : take base now ≡ take base before
+      pub untouched : Same-before base before now
 
     -- a refusal, whatever was to come
     pub refused-told : (x : Answer) (m : ℕ) → answer-outcome x ≡ refused m → Rule-read (node-steps (length ar) 2 (b + c) rs) b arities x base before now
         → (k : Run → Rule → Outcome System) → after (node-steps (length ar) 2 (b + c) rs) (λ y. after (made ar b (y .nodes)) (λ u. k y u)) ≡ refused m
-    unfolding Rule-read
     refused-told x m e h k = go (node-steps (length ar) 2 (b + c) rs) refl h
       where
         by-made : (o : Outcome Rule) (y : Run) → answer-outcome x ≡ after {A = ℕ} (after o (λ u. passed 0)) (λ k. passed (y .last)) → after o (λ u. k y u) ≡ refused m
@@ -71,12 +69,11 @@ module _ (ar arities : List ℕ) (are : take (length ar) arities ≡ ar) (few : 
         by-made (passed u) y told = not-passed (sym e ∙ told)
 
         go : (o : Outcome Run) → node-steps (length ar) 2 (b + c) rs ≡ o → Rule-read o b arities x base before now → after o (λ y. after (made ar b (y .nodes)) (λ u. k y u)) ≡ refused m
-        go (refused n) s h = as-refused System (sym (h .0) ∙ e)
+        go (refused n) s h = as-refused System (sym (h .answers) ∙ e)
         go (passed y) s h =
-            by-made (made ar b (y .nodes)) y (h .0 ∙ rw (judged-made b (y .nodes) (nodes-told (length ar) 2 (b + c) rs y s .small)))
+            by-made (made ar b (y .nodes)) y (h .answers ∙ rw (judged-made b (y .nodes) (nodes-told (length ar) 2 (b + c) rs y s .small)))
 
     pub passed-told : (x : Answer) (row : ℕ) → 1 ≤ b + c → answer-outcome x ≡ passed row → Rule-read (node-steps (length ar) 2 (b + c) rs) b arities x base before now → Rule-told row
-    unfolding Rule-read
     passed-told x row some e h = go (node-steps (length ar) 2 (b + c) rs) refl h
       where
         by-made : (o : Outcome Rule) (y : Run) → answer-outcome x ≡ after {A = ℕ} (after o (λ u. passed 0)) (λ k. passed (y .last)) → (u : Rule) × (o ≡ passed u) × (row ≡ y .last)
@@ -84,12 +81,12 @@ module _ (ar arities : List ℕ) (are : take (length ar) arities ≡ ar) (few : 
         by-made (passed u) y told = (u, refl, passed-same (sym e ∙ told))
 
         go : (o : Outcome Run) → node-steps (length ar) 2 (b + c) rs ≡ o → Rule-read o b arities x base before now → Rule-told row
-        go (refused n) s h = not-passed (sym (h .0) ∙ e)
+        go (refused n) s h = not-passed (sym (h .answers) ∙ e)
         go (passed y) s h =
             let t = nodes-told (length ar) 2 (b + c) rs y s in
             let many = t .many in
             let r = row-told (length ar) 2 (b + c) rs y at-rule some s in
-            let u = by-made (made ar b (y .nodes)) y (h .0 ∙ rw (judged-made b (y .nodes) (t .small))) in
+            let u = by-made (made ar b (y .nodes)) y (h .answers ∙ rw (judged-made b (y .nodes) (t .small))) in
             let m = rule-of-passed (side ar (take b (y .nodes))) (side ar (drop b (y .nodes))) (u .0) (u .1) in
             let left : take b (y .nodes) ≡ flat (u .0 .left) = side-nodes ar _ _ (m .0) in
             let right : drop b (y .nodes) ≡ flat (u .0 .right) = side-nodes ar _ _ (m .1) in
@@ -101,9 +98,8 @@ module _ (ar arities : List ℕ) (are : take (length ar) arities ≡ ar) (few : 
               row-is = u .2;
               last = r .0;
               last-is = u .2 ∙ r .1;
-              kept = rw (← left, ← right, take-append-drop b (y .nodes)) (h .3);
+              kept = rw (← left, ← right, take-append-drop b (y .nodes)) (h .kept y refl);
               left-long = rw (← left) (length-take-le b (y .nodes) (omega arith));
               right-long = rw (← right) (length-drop b (y .nodes) ∙ omega arith);
-              same = h .1;
-              untouched = h .2;
+              untouched = h .untouched;
             }

@@ -23,7 +23,7 @@ use Rattle.records.proofs.Table.{kind-of}
 use Rattle.terms.specs.Sides.{flat}
 use Rattle.terms.specs.Kept.{Kept}
 use Rattle.packs.specs.PackReading.{between-rules, pack-end, pack-from}
-use Rattle.pack_reader.specs.Stored.{Rule-at, node-steps, Rule-read, rule-header, row-after}
+use Rattle.pack_reader.specs.Stored.{Rule-at, Same-before, node-steps, Rule-read, rule-header, row-after}
 use Rattle.packs.proofs.OneRecord.{stray-record}
 use Rattle.packs.proofs.Places.{Between, at-start, after-symbol, after-node, between-symbol, between-kind}
 use Rattle.pack_reader.proofs.Wanted.{found-at, stray-at}
@@ -36,13 +36,13 @@ use Rattle.pack_reader.proofs.OneRule.{made, Rule-told, refused-told, p
 -- stays kept where what is written stands after it
 rule-stays : (ss ts nodes now : List ℕ) (base j : ℕ) (u : Rule)
     → getD ts (2 * j) 0 ≡ getD ss (2 * j) 0 → getD ts (2 * j + 1) 0 ≡ getD ss (2 * j + 1) 0 → getD ts (2 * j + 2) 0 ≡ getD ss (2 * j + 2) 0
-    → length now ≡ length nodes → take base now ≡ take base nodes → getD ss (2 * j + 2) 0 ≤ base → Rule-at ss nodes j u → Rule-at ts now j u
-rule-stays ss ts nodes now base j u e f g same untouched below k =
+    → Same-before base nodes now → getD ss (2 * j + 2) 0 ≤ base → Rule-at ss nodes j u → Rule-at ts now j u
+rule-stays ss ts nodes now base j u e f g untouched below k =
     let l = k .left-long in
     let r = k .right-long in
     record {
-      left-kept = rw e (kept-before nodes now base _ (flat (u .left)) same untouched (omega arith) (k .left-kept));
-      right-kept = rw f (kept-before nodes now base _ (flat (u .right)) same untouched (omega arith) (k .right-kept));
+      left-kept = rw e (kept-before nodes now base _ (flat (u .left)) untouched (omega arith) (k .left-kept));
+      right-kept = rw f (kept-before nodes now base _ (flat (u .right)) untouched (omega arith) (k .right-kept));
       left-long = omega arith;
       right-long = omega arith;
     }
@@ -215,7 +215,7 @@ module _ (pack arities : List ℕ) (symbols : ℕ) (fits : symbols ≤ length ar
                   (place-before starts i _ _ (2 * j) (omega arith))
                   (place-before starts i _ _ (2 * j + 1) (omega arith))
                   (place-before starts i _ _ (2 * j + 2) (omega arith))
-                  (told .same) (told .untouched) (s .below j h) (s .kept j h))
+                  (told .untouched) (s .below j h) (s .kept j h))
 
               kept-it : Rule-at new-starts now i (getD new-rules i no-rule)
               kept-it =

@@ -18,6 +18,7 @@ use Rattle.records.specs.Answers.{number-of, answer-outcome}
 use Rattle.records.specs.Outcomes.{Outcome, refused, passed, after}
 use Rattle.records.specs.Records.{record-at, all-records, length-bad}
 use Rattle.records.specs.Order.{S-symbol}
+use Rattle.records.specs.Files.{Whole}
 use Rattle.records.proofs.Outcomes.{not-passed, passed-same}
 use Rattle.records.proofs.Bytes.{drop-records}
 use Rattle.terms.proofs.Parsing.{flat-positive}
@@ -40,10 +41,10 @@ pub not-whole : (pack : List ℕ) → (length pack % 8 ≡ 0 → ⊥) → read-p
 unfolding read-pack length-bad
 not-whole pack h = rw (ne-eqb (length pack % 8) 0 h, or-true)
 
-module _ (pack : List ℕ) (short : length pack ≤ most-pack-bytes) (whole : length pack % 8 ≡ 0) where
+module _ (pack : List ℕ) (file : Whole most-pack-bytes pack) where
   in-phases : read-pack pack ≡ after (symbol-steps 0 0 (all-records pack)) (λ ar. pack-from (drop (length ar) (all-records pack)) (between-rules (row-after (length ar)) ar []))
   unfolding read-pack length-bad
-  in-phases = rw (le-ltb most-pack-bytes (length pack) short, eq-eqb (length pack % 8) 0 whole) (symbols-phase (all-records pack))
+  in-phases = rw (le-ltb most-pack-bytes (length pack) (file .short), eq-eqb (length pack % 8) 0 (file .whole)) (symbols-phase (all-records pack))
 
   -- THE SYMBOLS
 

@@ -2,12 +2,11 @@
 -- functions speak of it; no promise to a user does.
 use mathlib.Core.Path.{_≡_}
 use mathlib.Core.Bool.{Bool, true, false, _&&_, _||_, cond}
-use mathlib.Core.List.{List, [], _∷_, _++_, map}
-use mathlib.Core.Option.{Option, none, some}
-use Prim.Native.Nat.{ℕ, zero, suc, _+_, _*_, _-_, _≤_, _<_}
+use mathlib.Core.List.{List, [], _∷_}
+use Prim.Native.Nat.{ℕ, zero, suc, _+_, _*_, _-_, _%_, _≤_, _<_}
 use lib.Dec.{ltb, leb, eqb}
 use lib.ListN.{length, getD, take, drop}
-use Rattle.rewriting.specs.Terms.{Tree, Rule, System, rule}
+use Rattle.rewriting.specs.Terms.{Rule, System, rule}
 use Rattle.rewriting.specs.Pairs.{defined}
 use Rattle.rewriting.specs.Systems.{member}
 use Rattle.records.specs.declared.Record.{Record}
@@ -15,12 +14,14 @@ use Rattle.records.specs.declared.Answer.{Answer}
 use Rattle.records.specs.declared.Refusal.{Refusal}
 use Rattle.records.specs.Answers.{number-of, answer-outcome}
 use Rattle.records.specs.Outcomes.{Outcome, refused, passed, after}
-use Rattle.records.specs.Records.{all-records}
-use Rattle.records.specs.Order.{S-symbol, R-rule, V-variable, index, may-follow}
+use Rattle.records.specs.Records.{record-at}
+use Rattle.records.specs.Files.{Whole}
+use Rattle.records.specs.Order.{S-symbol, V-variable, index, may-follow}
 use Rattle.terms.specs.Sides.{Node, variable, symbol, flat, side}
 use Rattle.terms.specs.Kept.{code, codes, Kept, balanced}
-use Rattle.packs.specs.PackReading.{Pack-reading, between-rules, read-pack, pack-from, node-zeros, node-in-range, node-of, rule-of, rule-ended, side-count, most-symbols, most-arity, most-rules, variable-count}
+use Rattle.packs.specs.PackReading.{node-zeros, node-of, side-count, most-pack-bytes, most-symbols, most-arity, most-rules, variable-count}
 use Rattle.packs.specs.Encoding.{Good-pack}
+use Rattle.pack_reader.specs.declared.sides.RightSide.{RightSide}
 use Rattle.pack_reader.specs.declared.Counts.{Counts}
 use Rattle.pack_reader.specs.declared.PackRead.{PackRead}
 use Rattle.pack_reader.specs.declared.PackRead.the-variants.{Read, Refused as PackRefused}
@@ -68,11 +69,23 @@ node-steps n k (suc c) (r ∷ rs) =
     (after (node-outcome n r) (λ x. after (node-steps n (index (r .kind)) c rs) (λ y. more-run x y)))
     (refused 2)
 
+-- `count` nodes are to be read to nodes[base..], the first of them record `from`
+pub record Nodes-asked (pack : List ℕ) (from count symbols : ℕ) (nodes : List ℕ) (base : ℕ) : Type 0 where
+  pub whole : length pack % 8 ≡ 0
+  pub near : from + count ≤ 65536
+  pub symbols-few : symbols ≤ most-symbols
+  pub room : base + count ≤ length nodes
+
+-- a list of the same length, its bytes before `base` untouched
+pub record Same-before (base : ℕ) (before now : List ℕ) : Type 0 where
+  pub long : length now ≡ length before
+  pub same : take base now ≡ take base before
+
 -- what `read_nodes` answers and leaves: the nodes from `base` on, the bytes before them untouched
-unfoldable pub Nodes-read : Outcome Run → Answer → (base : ℕ) → (before now : List ℕ) → Type 0
-Nodes-read (refused n) x base o z = (answer-outcome x ≡ refused n) × (length z ≡ length o) × (take base z ≡ take base o)
-Nodes-read (passed y) x base o z =
-    (answer-outcome x ≡ passed (y .last)) × (length z ≡ length o) × (take base z ≡ take base o) × Kept z base (y .nodes)
+pub record Nodes-read (o : Outcome Run) (x : Answer) (base : ℕ) (before now : List ℕ) : Type 0 where
+  pub answers : answer-outcome x ≡ after o (λ y. passed (y .last))
+  pub untouched : Same-before base before now
+  pub kept : (y : Run) → o ≡ passed y → Kept now base (y .nodes)
 
 -- every variable among the nodes was seen
 unfoldable pub all-seen : (seen : List Bool) → (nodes : List ℕ) → Bool
@@ -95,11 +108,56 @@ rule-judged ar ls rs =
     (refused 4)
 
 -- what `read_rule` answers and leaves: the nodes, then 4, 5, 6 in bytes
-unfoldable pub Rule-read : Outcome Run → (left : ℕ) → (arities : List ℕ) → Answer → (base : ℕ) → (before now : List ℕ) → Type 0
-Rule-read (refused n) l ar x base o z = (answer-outcome x ≡ refused n) × (length z ≡ length o) × (take base z ≡ take base o)
-Rule-read (passed y) l ar x base o z =
-    (answer-outcome x ≡ after (rule-judged ar (codes (take l (y .nodes))) (codes (drop l (y .nodes)))) (λ k. passed (y .last)))
-    × (length z ≡ length o) × (take base z ≡ take base o) × Kept z base (y .nodes)
+pub record Rule-read (o : Outcome Run) (left : ℕ) (arities : List ℕ) (x : Answer) (base : ℕ) (before now : List ℕ) : Type 0 where
+  pub answers :
+      answer-outcome x ≡ after o (λ y. after (rule-judged arities (codes (take left (y .nodes))) (codes (drop left (y .nodes)))) (λ k. passed (y .last)))
+  pub untouched : Same-before base before now
+  pub kept : (y : Run) → o ≡ passed y → Kept now base (y .nodes)
+
+-- a rule's nodes are to be read, `left` of its left side and `right` of its right
+pub record Rule-asked (pack : List ℕ) (from left right symbols : ℕ) (arities nodes : List ℕ) (base : ℕ) : Type 0 where
+  pub whole : length pack % 8 ≡ 0
+  pub near : from ≤ 8192
+  pub symbols-few : symbols ≤ most-symbols
+  pub arities-long : length arities ≡ most-symbols
+  pub left-some : 1 ≤ left
+  pub left-few : left ≤ 32
+  pub right-few : right ≤ 32
+  pub room : base + 64 ≤ length nodes
+  pub nodes-few : length nodes ≤ 65536
+
+-- the nodes of a side are to be judged
+pub record Side-asked (arities nodes : List ℕ) (from to : ℕ) : Type 0 where
+  pub arities-long : length arities ≡ most-symbols
+  pub ordered : from ≤ to
+  pub within : to ≤ length nodes
+  pub near : to ≤ 65536
+
+-- what `left_side` answers and leaves: whether they are exactly one term, and if so, the variables among them
+pub record Left-judged (arities nodes : List ℕ) (seen : List Bool) (one : Bool) : Type 0 where
+  pub told : one ≡ balanced arities 1 nodes
+  pub long : length seen ≡ variable-count
+  pub variables : one ≡ true → Seen-in nodes seen
+
+-- what `right_side` answers: the same, and if so, whether all its variables were seen
+pub record Right-judged (arities nodes : List ℕ) (seen : List Bool) (r : RightSide) : Type 0 where
+  pub told : r .one ≡ balanced arities 1 nodes
+  pub all-told : r .one ≡ true → r .closed ≡ all-seen seen nodes
+
+-- both sides of a rule
+pub record Sides-asked (arities nodes : List ℕ) (left right end : ℕ) : Type 0 where
+  pub arities-long : length arities ≡ most-symbols
+  pub left-some : left < right
+  pub ordered : right ≤ end
+  pub within : end ≤ length nodes
+  pub near : end ≤ 65536
+
+-- the roots of the left sides are to be flagged
+pub record Flags-asked (starts nodes : List ℕ) (rules : ℕ) (flags : List ℕ) : Type 0 where
+  pub rules-few : rules ≤ most-rules
+  pub starts-long : length starts ≡ 129
+  pub flags-long : length flags ≡ most-symbols
+  pub within : (i : ℕ) → i < rules → getD starts (2 * i) 0 < length nodes
 
 -- what `flag_defined` leaves: a flag of 1 for each byte below 64 that begins a left side
 unfoldable pub begins-left : (starts nodes : List ℕ) → (rules : ℕ) → (f : ℕ) → Bool
@@ -125,6 +183,11 @@ symbol-steps k i (r ∷ rs) =
     (passed []))
     (refused 2)
 
+-- symbols are to be read into `arities`
+pub record Symbols-asked (pack arities : List ℕ) : Type 0 where
+  pub file : Whole most-pack-bytes pack
+  pub arities-long : length arities ≡ most-symbols
+
 unfoldable pub Symbols-read : Outcome (List ℕ) → Answer → (arities : List ℕ) → Type 0
 Symbols-read (refused n) x z = answer-outcome x ≡ refused n
 Symbols-read (passed ar) x z = (answer-outcome x ≡ passed (length ar)) × (take (length ar) z ≡ ar)
@@ -140,12 +203,28 @@ rule-header i r =
     (cond (ltb i most-rules && (side-count (r .b) && side-count (r .c))) (passed 0) (refused 3))
     (refused 2)
 
+-- rules are to be read, of a pack whose first `symbols` records were its symbols
+pub record Rules-asked (pack : List ℕ) (symbols : ℕ) (arities starts nodes : List ℕ) : Type 0 where
+  pub file : Whole most-pack-bytes pack
+  pub symbols-few : symbols ≤ most-symbols
+  pub arities-long : length arities ≡ most-symbols
+  pub starts-long : length starts ≡ 129
+  pub nodes-long : length nodes ≡ 4096
+  pub no-symbol-more : 8 * symbols + 8 ≤ length pack → record-at pack (8 * symbols) .kind ≡ S-symbol → ⊥
+
 unfoldable pub Rules-read : Outcome System → (arities : List ℕ) → Answer → (starts nodes : List ℕ) → Type 0
 Rules-read (refused n) ar x ss ns = answer-outcome x ≡ refused n
 Rules-read (passed p) ar x ss ns =
     (answer-outcome x ≡ passed (length (p .rules))) × (p .arities ≡ ar) × ((i : ℕ) → i < length (p .rules) → Rule-at ss ns i (rule p i))
 
 -- THE PACK
+-- the arrays that are lent to keep it have their lengths
+pub record Room (arities starts nodes flags : List ℕ) : Type 0 where
+  pub arities-long : length arities ≡ most-symbols
+  pub starts-long : length starts ≡ 129
+  pub nodes-long : length nodes ≡ 4096
+  pub flags-long : length flags ≡ most-symbols
+
 unfoldable pub Pack-read : Outcome System → PackRead → (arities starts nodes flags : List ℕ) → Type 0
 Pack-read (refused n) x ar ss ns ms = (y : Refusal) × (x ≡ PackRefused y) × (number-of y ≡ n)
 Pack-read (passed p) x ar ss ns ms = (c : Counts) × (x ≡ Read c) × Stored p (c .symbols) (c .rules) ar ss ns ms

@@ -7,11 +7,8 @@ mod symbols;
 use records::Answer;
 use records::MOST_PACK_BYTES;
 use records::Refusal;
-ghost use Prim.Native.Nat.{_≤_};
-ghost use mathlib.Core.Path.{_≡_};
-ghost use lib.ListN.{length};
 ghost use Rattle.packs.specs.PackReading.{read-pack};
-ghost use Rattle.pack_reader.specs.Stored.{Pack-read};
+ghost use Rattle.pack_reader.specs.Stored.{Room, Pack-read};
 
 // Document 01's limit on a pack's rules.
 pub const MOST_RULES: usize = 64;
@@ -39,7 +36,7 @@ pub fn read_pack(
     nodes: &mut [u8],
     defined: &mut [u8],
 ) -> PackRead
-    requires { ⌜ (length (now arities) ≡ 64) × (length (now starts) ≡ 129) × (length (now nodes) ≡ 4096) × (length (now defined) ≡ 64) ⌝ }
+    requires { ⌜ Room (now arities) (now starts) (now nodes) (now defined) ⌝ }
     ensures { λ r. ⌜ Pack-read (read-pack (now (pack .entry))) r (now (arities .exit)) (now (starts .exit)) (now (nodes .exit)) (now (defined .exit)) ⌝ }
 {
     if MOST_PACK_BYTES < pack.len() {

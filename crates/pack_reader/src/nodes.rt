@@ -6,11 +6,11 @@ use records::Wanted;
 use terms::MOST_SYMBOLS;
 use terms::MOST_VARIABLES;
 ghost use mathlib.Core.Path.{_≡_};
-ghost use Prim.Native.Nat.{_+_, _%_, _≤_};
-ghost use lib.ListN.{length, drop};
+ghost use Prim.Native.Nat.{_≤_};
+ghost use lib.ListN.{drop};
 ghost use Rattle.records.specs.Answers.{answer-outcome};
 ghost use Rattle.records.specs.Records.{all-records};
-ghost use Rattle.pack_reader.specs.Stored.{node-outcome, coded, node-steps, Nodes-read};
+ghost use Rattle.pack_reader.specs.Stored.{node-outcome, coded, node-steps, Nodes-asked, Nodes-read};
 
 // A node's byte: 2 for a field that is not zero, 3 for a number out of range.
 pub fn node_code(r: Record, symbols: usize) -> Answer
@@ -48,7 +48,7 @@ pub fn read_nodes(
     nodes: &mut [u8],
     base: usize,
 ) -> Answer
-    requires { ⌜ (length (now pack) % 8 ≡ 0) × (from + count ≤ 65536) × (symbols ≤ 64) × (base + count ≤ length (now nodes)) ⌝ }
+    requires { ⌜ Nodes-asked (now pack) from count symbols (now nodes) base ⌝ }
     ensures { λ x. ⌜ Nodes-read (node-steps symbols 2 count (drop from (all-records (now (pack .entry))))) x base (now (nodes .entry)) (now (nodes .exit)) ⌝ }
 {
     let n = pack.len() / 8;

@@ -7,12 +7,12 @@ use records::Wanted;
 use terms::MOST_SYMBOLS;
 ghost use mathlib.Core.Path.{_≡_};
 ghost use mathlib.Core.List.{[]};
-ghost use Prim.Native.Nat.{ℕ, _+_, _*_, _%_, _≤_, _<_};
-ghost use lib.ListN.{length, getD, drop, take, set, replicate};
+ghost use Prim.Native.Nat.{_+_, _*_, _<_};
+ghost use lib.ListN.{length, drop, take, set, replicate};
 ghost use Rattle.records.specs.Answers.{answer-outcome};
-ghost use Rattle.records.specs.Records.{all-records, record-at};
+ghost use Rattle.records.specs.Records.{all-records};
 ghost use Rattle.packs.specs.PackReading.{pack-from, between-rules};
-ghost use Rattle.pack_reader.specs.Stored.{rule-header, node-steps, Rule-read, Rules-read, row-after, Flagged};
+ghost use Rattle.pack_reader.specs.Stored.{rule-header, node-steps, Rule-asked, Rule-read, Rules-asked, Rules-read, row-after, Flags-asked, Flagged};
 
 // Document 01's limit on the nodes of a side.
 const MOST_SIDE_NODES: u16 = 32;
@@ -56,7 +56,7 @@ fn read_rule(
     nodes: &mut [u8],
     base: usize,
 ) -> Answer
-    requires { ⌜ (length (now pack) % 8 ≡ 0) × (from ≤ 8192) × (symbols ≤ 64) × (length (now arities) ≡ 64) × (1 ≤ b) × (b ≤ 32) × (c ≤ 32) × (base + 64 ≤ length (now nodes)) × (length (now nodes) ≤ 65536) ⌝ }
+    requires { ⌜ Rule-asked (now pack) from b c symbols (now arities) (now nodes) base ⌝ }
     ensures { λ x. ⌜ Rule-read (node-steps symbols 2 (b + c) (drop from (all-records (now (pack .entry))))) b (now (arities .entry)) x base (now (nodes .entry)) (now (nodes .exit)) ⌝ }
 {
     match crate::nodes::read_nodes(pack, from, b + c, symbols, nodes, base) {
@@ -91,8 +91,7 @@ pub fn read_rules(
     starts: &mut [u16],
     nodes: &mut [u8],
 ) -> Answer
-    requires { ⌜ (length (now pack) % 8 ≡ 0) × (length (now pack) ≤ 33792) × (symbols ≤ 64) × (length (now arities) ≡ 64) × (length (now starts) ≡ 129) × (length (now nodes) ≡ 4096) ⌝ }
-    requires { ⌜ (8 * symbols + 8 ≤ length (now pack) → record-at (now pack) (8 * symbols) .kind ≡ 83 → ⊥) ⌝ }
+    requires { ⌜ Rules-asked (now pack) symbols (now arities) (now starts) (now nodes) ⌝ }
     ensures { λ x. ⌜ Rules-read (pack-from (drop symbols (all-records (now (pack .entry)))) (between-rules (row-after symbols) (take symbols (now (arities .entry))) [])) (take symbols (now (arities .entry))) x (now (starts .exit)) (now (nodes .exit)) ⌝ }
 {
     let n = pack.len() / 8;
@@ -150,7 +149,7 @@ fn clear(defined: &mut [u8])
 
 // Flags the root of each left side.
 pub fn flag_defined(starts: &[u16], nodes: &[u8], rules: usize, defined: &mut [u8])
-    requires { ⌜ (rules ≤ 64) × (length (now starts) ≡ 129) × (length (now defined) ≡ 64) × ((i : ℕ) → i < rules → getD (now starts) (2 * i) 0 < length (now nodes)) ⌝ }
+    requires { ⌜ Flags-asked (now starts) (now nodes) rules (now defined) ⌝ }
     ensures { λ _. ⌜ Flagged (now (starts .entry)) (now (nodes .entry)) rules (now (defined .exit)) ⌝ }
 {
     clear(defined);

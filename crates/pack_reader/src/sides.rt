@@ -5,12 +5,12 @@ use terms::FIRST_VARIABLE;
 use terms::MOST_SYMBOLS;
 use terms::MOST_VARIABLES;
 ghost use mathlib.Core.Path.{_≡_};
-ghost use Prim.Native.Nat.{_≤_, _<_};
-ghost use mathlib.Core.Bool.{true, false};
+ghost use mathlib.Core.Bool.{false};
 ghost use lib.ListN.{length, replicate};
 ghost use Rattle.records.specs.Answers.{answer-outcome};
-ghost use Rattle.terms.specs.Kept.{balanced, part};
-ghost use Rattle.pack_reader.specs.Stored.{all-seen, Seen-in, rule-judged};
+ghost use Rattle.terms.specs.Kept.{part};
+ghost use Rattle.packs.specs.PackReading.{variable-count};
+ghost use Rattle.pack_reader.specs.Stored.{rule-judged, Side-asked, Left-judged, Right-judged, Sides-asked};
 
 // The byte after those of the variables.
 const PAST_VARIABLES: usize = MOST_SYMBOLS + MOST_VARIABLES;
@@ -23,8 +23,8 @@ pub struct RightSide {
 
 // Notes the variables of a left side, and says whether its nodes are exactly one term: one pass for both.
 fn left_side(arities: &[u8], nodes: &[u8], from: usize, to: usize, seen: &mut [bool]) -> bool
-    requires { ⌜ (length (now arities) ≡ 64) × (from ≤ to) × (to ≤ length (now nodes)) × (to ≤ 65536) × (now seen ≡ replicate 16 false) ⌝ }
-    ensures { λ r. ⌜ (r ≡ balanced (now (arities .entry)) 1 (part (now (nodes .entry)) from to)) × (length (now (seen .exit)) ≡ 16) × (r ≡ true → Seen-in (part (now (nodes .entry)) from to) (now (seen .exit))) ⌝ }
+    requires { ⌜ Side-asked (now arities) (now nodes) from to × (now seen ≡ replicate variable-count false) ⌝ }
+    ensures { λ r. ⌜ Left-judged (now (arities .entry)) (part (now (nodes .entry)) from to) (now (seen .exit)) r ⌝ }
 {
     let mut wanted = 1;
     let mut i = from;
@@ -46,8 +46,8 @@ fn left_side(arities: &[u8], nodes: &[u8], from: usize, to: usize, seen: &mut [b
 
 // Compares a right side with the variables of the left: one pass for both answers.
 fn right_side(arities: &[u8], nodes: &[u8], from: usize, to: usize, seen: &[bool]) -> RightSide
-    requires { ⌜ (length (now arities) ≡ 64) × (from ≤ to) × (to ≤ length (now nodes)) × (to ≤ 65536) × (length (now seen) ≡ 16) ⌝ }
-    ensures { λ r. ⌜ (r .one ≡ balanced (now (arities .entry)) 1 (part (now (nodes .entry)) from to)) × (r .one ≡ true → r .closed ≡ all-seen (now (seen .entry)) (part (now (nodes .entry)) from to)) ⌝ }
+    requires { ⌜ Side-asked (now arities) (now nodes) from to × (length (now seen) ≡ variable-count) ⌝ }
+    ensures { λ r. ⌜ Right-judged (now (arities .entry)) (part (now (nodes .entry)) from to) (now (seen .entry)) r ⌝ }
 {
     let mut wanted = 1;
     let mut closed = true;
@@ -75,7 +75,7 @@ fn right_side(arities: &[u8], nodes: &[u8], from: usize, to: usize, seen: &[bool
 
 // A rule after its last node: 4, 5, 6.
 pub fn judge_rule(arities: &[u8], nodes: &[u8], left: usize, right: usize, end: usize) -> Answer
-    requires { ⌜ (length (now arities) ≡ 64) × (left < right) × (right ≤ end) × (end ≤ length (now nodes)) × (end ≤ 65536) ⌝ }
+    requires { ⌜ Sides-asked (now arities) (now nodes) left right end ⌝ }
     ensures { λ r. ⌜ answer-outcome r ≡ rule-judged (now (arities .entry)) (part (now (nodes .entry)) left right) (part (now (nodes .entry)) right end) ⌝ }
 {
     let mut seen = [false; MOST_VARIABLES];

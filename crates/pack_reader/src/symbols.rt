@@ -5,11 +5,9 @@ use records::Refusal;
 use records::Wanted;
 use terms::MOST_SYMBOLS;
 ghost use mathlib.Core.Path.{_≡_};
-ghost use Prim.Native.Nat.{_%_, _≤_};
-ghost use lib.ListN.{length};
 ghost use Rattle.records.specs.Answers.{answer-outcome};
 ghost use Rattle.records.specs.Records.{all-records};
-ghost use Rattle.pack_reader.specs.Stored.{arity-outcome, symbol-steps, Symbols-read};
+ghost use Rattle.pack_reader.specs.Stored.{arity-outcome, symbol-steps, Symbols-asked, Symbols-read};
 
 // Document 01's limit on a symbol's arguments.
 const MOST_ARITY: u16 = 8;
@@ -38,7 +36,7 @@ fn arity_of(r: Record, i: usize) -> Answer
 
 // Reads the symbols, up to the first rule or the end. Answers how many there are.
 pub fn read_symbols(pack: &[u8], arities: &mut [u8]) -> Answer
-    requires { ⌜ (length (now pack) % 8 ≡ 0) × (length (now pack) ≤ 33792) × (length (now arities) ≡ 64) ⌝ }
+    requires { ⌜ Symbols-asked (now pack) (now arities) ⌝ }
     ensures { λ x. ⌜ Symbols-read (symbol-steps 0 0 (all-records (now (pack .entry)))) x (now (arities .exit)) ⌝ }
 {
     let n = pack.len() / 8;

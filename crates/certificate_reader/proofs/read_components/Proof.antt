@@ -59,15 +59,14 @@ step-asked : tie.Need-step-requires Inv-loop μ-loop
 step-asked c κs =
     let turn = c .before .before .before .before in
     let l = turn .before .loop in
-    let pre = turn .before .before .before .before .before .before .before .pre in (
-      omega (arith, l .inv .0, l .inv .2, pre .1),
-      pre .2,
-      pre .3,
-      pre .4,
-      pre .5,
-      l .inv .1,
-      stands _ (l .i) (l .s) (c .before .r .given .0 .0) (sym (c .before .before .before .read-wanted .ensures) ∙ c .before .r .given .1),
-    )
+    let asked = turn .before .before .before .before .before .before .before .pre in
+    record {
+      symbols-few = asked .symbols-few;
+      arrays = asked .arrays;
+      number-small = omega (arith, l .inv .0, l .inv .2, asked .file .short);
+      sound = l .inv .1;
+      follows = stands _ (l .i) (l .s) (c .before .r .given .0 .0) (sym (c .before .before .before .read-wanted .ensures) ∙ c .before .r .given .1);
+    }
 
 -- the step has been made
 module _ (c : tie.After-step Inv-loop μ-loop) where
@@ -99,7 +98,7 @@ module _ (c : tie.After-step Inv-loop μ-loop) where
 
   answered : (p : System) (stored : Holds p) (a : Stepped) → c .step .result ≡ a → Steps-as (cert-step p r (told p stored .reading)) a
   answered p stored a e =
-      subst (λ (a : Stepped). Steps-as (cert-step p r (told p stored .reading)) a) e (c .step .ensures .1 p (told p stored .reading) stored (told p stored .mirrors))
+      subst (λ (a : Stepped). Steps-as (cert-step p r (told p stored .reading)) a) e (c .step .ensures .means p (told p stored .reading) stored (told p stored .mirrors))
 
 refused : tie.Need-returns-2 Inv-loop μ-loop
 refused c =
@@ -115,7 +114,7 @@ again c =
     let done = led .before .before in
     let next = led .t .given .0 .0 in
     let turn = done .before .before .before .before .before in
-    let sound = done .step .ensures .0 next (led .t .given .1) in (
+    let sound = done .step .ensures .on next (led .t .given .1) in (
       omega (arith, turn .loop-test .taken),
       sound .0,
       omega (arith, sound .1, turn .before .loop .inv .2),
@@ -152,7 +151,7 @@ read-components-spec =
     (λ c. search needs)
     refused
     (λ c. search needs)
-    (λ c. omega arith)
+    (λ c. omega (arith, start (c .before .before .before) .pre .file .short))
     (λ c. omega arith)
     again
     (λ c κs. omega arith)

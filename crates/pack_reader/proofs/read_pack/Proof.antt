@@ -8,6 +8,8 @@ use Rattle.rewriting.specs.Terms.{System}
 use Rattle.records.specs.declared.Refusal.{Refusal}
 use Rattle.records.specs.Answers.{number-of}
 use Rattle.records.specs.Outcomes.{Outcome, refused, passed}
+use Rattle.records.specs.Files.{Whole}
+use Rattle.packs.specs.PackReading.{most-pack-bytes}
 use Rattle.pack_reader.specs.declared.Counts.{Counts}
 use Rattle.pack_reader.specs.declared.PackRead.the-variants.{Read, Refused as PackRefused}
 use Rattle.pack_reader.specs.Stored.{Stored, Pack-read}
@@ -23,47 +25,65 @@ reads-all : (o : Outcome System) (p : System) (k : Counts) (ar ss ns ms : List �
 unfolding Pack-read
 reads-all o p k ar ss ns ms e h = rw e (k, refl, h)
 
+-- the pack's length is good
+file : (c : tie.Else2) → Whole most-pack-bytes (c .before .before .before .before .before .before .before .args .pack .now)
+file c = record { whole = c .if2 .left; short = c .before .if1 .left }
+
 -- the symbols were read
 symbols : (c : tie.After-s)
     → let a = c .before .before .before .before .before .before .before .before .before .before .before .before .before .args in
-    Symbols-done (a .pack .now) (c .before .before .before .before .before .before .before .if1 .left) (c .before .before .before .before .before .before .if2 .left)
-    (c .before .before .before .before .read-symbols .last .1 .0) (c .s .given .0 .0)
-symbols c = symbols-done _ _ _ _ _ (c .before .before .before .before .read-symbols .ensures) (c .s .given .1)
+    Symbols-done (a .pack .now) (file (c .before .before .before .before .before .before)) (c .before .before .before .before .read-symbols .last .1 .0) (c .s .given .0 .0)
+symbols c = symbols-done _ _ _ _ (c .before .before .before .before .read-symbols .ensures) (c .s .given .1)
 
 -- and the rules
 rules : (c : tie.After-n)
     → let n = c .before .before .before .before .before .before in
     let q = n .before .before .before .before .before in
     let a = q .before .before .before .before .before .before .before .before .before .before .before .before .before .args in
-    Rules-done (a .pack .now) (q .before .before .before .before .before .before .before .if1 .left) (q .before .before .before .before .before .before .if2 .left)
-    (q .before .before .before .before .read-symbols .last .1 .0) (q .s .given .0 .0) (symbols q)
+    Rules-done (a .pack .now) (file (q .before .before .before .before .before .before)) (q .before .before .before .before .read-symbols .last .1 .0) (q .s .given .0 .0) (symbols q)
     (n .read-rules .last .1 .1 .1 .0) (n .read-rules .last .1 .1 .1 .1 .0) (c .n .given .0 .0)
 rules c =
     let n = c .before .before .before .before .before .before in
     let q = n .before .before .before .before .before in
-    rules-done _ _ _ _ _ (symbols q) _ _ _ (n .read-rules .ensures) (c .n .given .1)
+    rules-done _ _ _ _ (symbols q) _ _ _ (n .read-rules .ensures) (c .n .given .1)
 
 no-symbols : tie.Need-returns-3
 no-symbols c =
     let q = c .before .before .before .before .before in
-    refuses _ _ _ _ _ _ (symbols-refused _ (q .before .before .before .if1 .left) (q .before .before .if2 .left) _ _ (q .read-symbols .ensures) (c .before .x .given .1))
+    refuses _ _ _ _ _ _ (symbols-refused _ (file (q .before .before)) _ _ (q .read-symbols .ensures) (c .before .x .given .1))
 
 no-rules : tie.Need-returns-4
 no-rules c =
     let n = c .before .before .before .before .before .before .before in
-    refuses _ _ _ _ _ _ (rules-refused _ _ _ _ _ (symbols (n .before .before .before .before .before)) _ _ _ (n .read-rules .ensures) (c .before .x2 .given .1))
+    refuses _ _ _ _ _ _ (rules-refused _ _ _ _ (symbols (n .before .before .before .before .before)) _ _ _ (n .read-rules .ensures) (c .before .x2 .given .1))
+
+to-rules : tie.Need-read-rules-requires
+to-rules c κs =
+    let q = c .before .before .before .before in
+    let s = q .before .before .before .before in
+    let tests = s .before .before in
+    let asked = tests .before .before .before .before .before .before .before .pre in
+    record {
+      file = file tests;
+      symbols-few = symbols q .few;
+      arities-long = omega (arith, s .read-symbols .kept, asked .arities-long);
+      starts-long = asked .starts-long;
+      nodes-long = asked .nodes-long;
+      no-symbol-more = symbols q .next;
+    }
 
 to-flag : tie.Need-flag-defined-requires
 to-flag c κs =
     let q = c .before .before .before .before in
     let n = q .before .before .before .before .before .before in
     let start = n .before .before .before .before .before .before .before .before .before .before .before .before .before .before .before .before .before .before in
-    let d = rules q in (
-      rules-few _ _ _ _ _ _ _ _ _ d,
-      omega (arith, n .read-rules .kept, start .pre),
-      omega (arith, start .pre),
-      left-begins _ _ _ _ _ _ _ _ _ d,
-    )
+    let d = rules q in
+    record {
+      rules-few = rules-few _ _ _ _ _ _ _ _ d;
+      starts-long = omega (arith, n .read-rules .kept, start .pre .starts-long);
+      flags-long = start .pre .flags-long;
+      within = left-begins _ _ _ _ _ _ _ _ d;
+    }
 
 all-read : tie.Need-returns-5
 all-read c =
@@ -74,7 +94,7 @@ all-read c =
     let k = s .before .before .before .before in
     let start = k .before .before .before .before .before .before .before .before .before in
     reads-all _ (d .system) _ _ _ _ _ (d .read)
-    (stored _ _ _ _ _ _ _ _ _ d _ (omega (arith, k .read-symbols .kept, start .pre, symbols s .few)) (m .flag-defined .ensures))
+    (stored _ _ _ _ _ _ _ _ d _ (omega (arith, k .read-symbols .kept, start .pre .arities-long, symbols s .few)) (m .flag-defined .ensures))
 
 pub read-pack-spec : {M : Type 1} → statement M
 read-pack-spec =
@@ -85,7 +105,7 @@ read-pack-spec =
     (λ c κs. search needs)
     (λ c. search needs)
     (λ c. search needs)
-    (λ c κs. let d = symbols (c .before .before .before .before) in (omega (arith, c .before .before .before .before .before .before .before .before .read-symbols .kept), d .next))
+    to-rules
     (λ c. search needs)
     (λ c. search needs)
     to-flag

@@ -20,24 +20,26 @@ use Rattle.certificate_reader.proofs.steps.component.Tie as tie
 
 not-zero : tie.Need-returns
 unfolding component-read
-not-zero c = (no-state _ StrayRecord, λ x m k. rw (ne-eqb _ _ (c .if1 .taken)) (stops StrayRecord))
+not-zero c = record { on = no-state _ StrayRecord; means = λ x m k. rw (ne-eqb _ _ (c .if1 .taken)) (stops StrayRecord) }
 
 out-of-sequence : tie.Need-returns-2
 unfolding component-read
-out-of-sequence c = (
-  no-state _ StrayRecord,
-  λ x m k. rw (eq-eqb _ _ (c .before .before .before .if1 .left), ← (m .number-is), ne-eqb _ _ (c .if2 .taken)) (stops StrayRecord),
-)
+out-of-sequence c =
+    record {
+      on = no-state _ StrayRecord;
+      means = λ x m k. rw (eq-eqb _ _ (c .before .before .before .if1 .left), ← (m .number-is), ne-eqb _ _ (c .if2 .taken)) (stops StrayRecord);
+    }
 
 not-alone : tie.Need-returns-3
 unfolding component-read
 not-alone c =
-    let e = c .before .before .before .before in (
-      no-state _ StrayRecord,
-      λ x m k.
+    let e = c .before .before .before .before in
+    record {
+      on = no-state _ StrayRecord;
+      means = λ x m k.
           rw (eq-eqb _ _ (e .before .before .before .if1 .left), ← (m .number-is), eq-eqb _ _ (e .if2 .left), eq-eqb _ _ (c .before .before .if3 .taken), lt-ltb _ _ (c .if4 .taken))
-          (stops StrayRecord),
-    )
+          (stops StrayRecord);
+    }
 
 -- past the tests of 2
 module _ (c : tie.Joined3) where
@@ -58,34 +60,36 @@ module _ (c : tie.Joined3) where
 weightings-many : tie.Need-returns-4
 unfolding component-read
 weightings-many c =
-    (no-state _ OutOfRange, λ x m k. rw (no-stray (c .before .before) x m, lt-leb _ _ (c .if5 .taken)) (stops OutOfRange))
+    record { on = no-state _ OutOfRange; means = λ x m k. rw (no-stray (c .before .before) x m, lt-leb _ _ (c .if5 .taken)) (stops OutOfRange) }
 
 pairs-none : tie.Need-returns-5
 unfolding component-read
 pairs-none c =
     let b = c .before .before in
-    (no-state _ OutOfRange, λ x m k. rw (no-stray (b .before .before) x m, le-leb _ _ (b .if5 .left), lt-leb _ _ (c .if6 .taken)) (stops OutOfRange))
+    record { on = no-state _ OutOfRange; means = λ x m k. rw (no-stray (b .before .before) x m, le-leb _ _ (b .if5 .left), lt-leb _ _ (c .if6 .taken)) (stops OutOfRange) }
 
 pairs-many : tie.Need-returns-6
 unfolding component-read
 pairs-many c =
     let b = c .before .before in
-    let w = b .before .before in (
-      no-state _ OutOfRange,
-      λ x m k. rw (no-stray (w .before .before) x m, le-leb _ _ (w .if5 .left), le-leb _ _ (b .if6 .left), lt-leb _ _ (c .if7 .taken)) (stops OutOfRange),
-    )
+    let w = b .before .before in
+    record {
+      on = no-state _ OutOfRange;
+      means = λ x m k. rw (no-stray (w .before .before) x m, le-leb _ _ (w .if5 .left), le-leb _ _ (b .if6 .left), lt-leb _ _ (c .if7 .taken)) (stops OutOfRange);
+    }
 
 begun : tie.Need-returns-7
 unfolding component-read index
 begun c =
     let e = c .before .before .before in
     let b = e .before .before in
-    let w = b .before .before in (
-      after-component _ _ refl (b .if6 .left) refl,
-      λ x m k.
+    let w = b .before .before in
+    record {
+      on = after-component _ _ refl (b .if6 .left) refl;
+      means = λ x m k.
           rw (no-stray (w .before .before) x m, le-leb _ _ (w .if5 .left), le-leb _ _ (b .if6 .left), le-leb _ _ (e .if7 .left), k)
-          (answers _ _ (component-mirrored _ x _ _ (w .if5 .left) m)),
-    )
+          (answers _ _ (component-mirrored _ x _ _ (w .if5 .left) m));
+    }
 
 pub component-spec : {M : Type 1} → statement M
 component-spec =

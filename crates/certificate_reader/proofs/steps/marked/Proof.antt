@@ -25,7 +25,7 @@ use Rattle.certificate_reader.proofs.steps.marked.Tie as tie
 
 not-zero : tie.Need-returns
 unfolding marked-read
-not-zero c = (no-state _ StrayRecord, λ p rules starts nodes x d stored m is due kind. rw (ne-eqb _ _ (c .if1 .taken)) (stops StrayRecord))
+not-zero c = record { on = no-state _ StrayRecord; means = λ p rules starts nodes x d stored m is due kind. rw (ne-eqb _ _ (c .if1 .taken)) (stops StrayRecord) }
 
 -- the field is zero, and the key is made
 module _ (c : tie.After-key) where
@@ -44,7 +44,7 @@ module _ (c : tie.After-key) where
   key-told : (x : Certificate-reading) (d : Component) → x .begun ≡ some d → Mirrors s x →
       weights-below (last-weighting (d .weightings) .marked) (r .a) (r .b) ≡ ltb (s .«marked_key») (c .key .result)
   unfolding weights-below Tells
-  key-told x d is m = marked-told s x d is m (r .a) (r .b) small ∙ ap (ltb (s .«marked_key»)) (sym (c .key .ensures .0))
+  key-told x d is m = marked-told s x d is m (r .a) (r .b) small ∙ ap (ltb (s .«marked_key»)) (sym (c .key .ensures .is))
 
 -- the place is asked for
 module _ (c : tie.After-is-marked-place) where
@@ -62,34 +62,37 @@ module _ (c : tie.After-is-marked-place) where
 not-rising : tie.Need-returns-2
 unfolding marked-read
 not-rising c =
-    let k = c .before .before in (
-      no-state _ StrayRecord,
-      λ p rules starts nodes x d stored m is due kind. rw (zero-one k, key-told k x d is m, le-ltb _ _ (c .if2 .taken)) (stops StrayRecord),
-    )
+    let k = c .before .before in
+    record {
+      on = no-state _ StrayRecord;
+      means = λ p rules starts nodes x d stored m is due kind. rw (zero-one k, key-told k x d is m, le-ltb _ _ (c .if2 .taken)) (stops StrayRecord);
+    }
 
 no-place : tie.Need-returns-3
 unfolding marked-read
 no-place c =
     let place = c .before in
-    let k = keyed place in (
-      no-state _ OutOfRange,
-      λ p rules starts nodes x d stored m is due kind.
+    let k = keyed place in
+    record {
+      on = no-state _ OutOfRange;
+      means = λ p rules starts nodes x d stored m is due kind.
           let none = place-told place p rules starts nodes stored ∙ not-true (place .is-marked-place .result) (c .if3 .taken) in
-          rw (zero-one k, key-told k x d is m, lt-ltb _ _ (place .before .if2 .left), none) (stops OutOfRange),
-    )
+          rw (zero-one k, key-told k x d is m, lt-ltb _ _ (place .before .if2 .left), none) (stops OutOfRange);
+    }
 
 a-marked-weight : tie.Need-returns-4
 unfolding marked-read index
 a-marked-weight c =
     let place = c .before in
     let k = keyed place in
-    let has = start place .pre .3 in (
-      after-weight _ _ (omega arith) (omega arith) refl has refl,
-      λ p rules starts nodes x d stored m is due kind.
+    let has = start place .pre .weighted in
+    record {
+      on = after-weight _ _ (omega arith) (omega arith) refl has refl;
+      means = λ p rules starts nodes x d stored m is due kind.
           let one = place-told place p rules starts nodes stored ∙ not-false (place .is-marked-place .result) (c .if3 .left) in
           rw (zero-one k, key-told k x d is m, lt-ltb _ _ (place .before .if2 .left), one, kind)
-          (answers _ _ (marked-mirrored _ x d is m _ _ _ (k .key .ensures .0) (small k) _ has)),
-    )
+          (answers _ _ (marked-mirrored _ x d is m _ _ _ (k .key .ensures .is) (small k) _ has));
+    }
 
 pub marked-spec : {M : Type 1} → statement M
 marked-spec = tie.close (tie.spec not-zero (λ c κs. search needs) not-rising (λ c κs. search needs) no-place a-marked-weight)

@@ -46,14 +46,15 @@ module _ (is : Bool) (n : ℕ) (a : Answer) (e : answer-outcome a ≡ cond is (p
 
 one-not-zero : tie.Need-returns
 unfolding pair-read
-one-not-zero c = (no-state _ StrayRecord, λ p symbols arities x d stored m is kind. rw (ne-eqb _ _ (c .if1 .taken)) (stops StrayRecord))
+one-not-zero c = record { on = no-state _ StrayRecord; means = λ p symbols arities x d stored m is kind. rw (ne-eqb _ _ (c .if1 .taken)) (stops StrayRecord) }
 
 c-not-zero : tie.Need-returns-2
 unfolding pair-read
-c-not-zero c = (
-  no-state _ StrayRecord,
-  λ p symbols arities x d stored m is kind. rw (eq-eqb _ _ (c .before .before .if1 .left), ne-eqb _ _ (c .if2 .taken)) (stops StrayRecord),
-)
+c-not-zero c =
+    record {
+      on = no-state _ StrayRecord;
+      means = λ p symbols arities x d stored m is kind. rw (eq-eqb _ _ (c .before .before .if1 .left), ne-eqb _ _ (c .if2 .taken)) (stops StrayRecord);
+    }
 
 -- the fields are zero, and the key is made
 module _ (c : tie.After-key) where
@@ -72,40 +73,43 @@ module _ (c : tie.After-key) where
   key-told : (x : Certificate-reading) (d : Component) → x .begun ≡ some d → Mirrors s x →
       last-below (λ q. q .at-rule) (λ q. q .place) (d .pairs) (r .a) (r .b) ≡ ltb (s .«pair_key») (c .key .result)
   unfolding Tells
-  key-told x d is m = pairs-told s x d is m (r .a) (r .b) small ∙ ap (ltb (s .«pair_key»)) (sym (c .key .ensures .0))
+  key-told x d is m = pairs-told s x d is m (r .a) (r .b) small ∙ ap (ltb (s .«pair_key»)) (sym (c .key .ensures .is))
 
 not-rising : tie.Need-returns-3
 unfolding pair-read
 not-rising c =
-    let k = c .before .before in (
-      no-state _ StrayRecord,
-      λ p symbols arities x d stored m is kind. rw (zeros k, key-told k x d is m, le-ltb _ _ (c .if3 .taken)) (stops StrayRecord),
-    )
+    let k = c .before .before in
+    record {
+      on = no-state _ StrayRecord;
+      means = λ p symbols arities x d stored m is kind. rw (zeros k, key-told k x d is m, le-ltb _ _ (c .if3 .taken)) (stops StrayRecord);
+    }
 
 no-pair : tie.Need-returns-4
 unfolding pair-read Place-answer
 no-pair c =
     let place = c .before .before .before in
     let rising = place .before .before .before in
-    let k = rising .before .before in (
-      no-state _ _,
-      λ p symbols arities x d stored m is kind.
+    let k = rising .before .before in
+    record {
+      on = no-state _ _;
+      means = λ p symbols arities x d stored m is kind.
           let none : (is-pair p (a-pair (r k .a) (r k .b)) ≡ false) × _ = not-named _ _ _ (place .place-of .ensures p symbols arities stored) _ (c .before .x .given .1) in
-          rw (zeros k, key-told k x d is m, lt-ltb _ _ (rising .if3 .left), none .0) (stops-with 7 _ (none .1)),
-    )
+          rw (zeros k, key-told k x d is m, lt-ltb _ _ (rising .if3 .left), none .0) (stops-with 7 _ (none .1));
+    }
 
 a-pair-found : tie.Need-returns-5
 unfolding pair-read Place-answer index
 a-pair-found c =
     let place = c .before .before .before in
     let rising = place .before .before .before in
-    let k = rising .before .before in (
-      after-pair _ _ refl refl,
-      λ p symbols arities x d stored m is kind.
+    let k = rising .before .before in
+    record {
+      on = after-pair _ _ refl refl;
+      means = λ p symbols arities x d stored m is kind.
           let one : is-pair p (a-pair (r k .a) (r k .b)) ≡ true = named _ _ _ (place .place-of .ensures p symbols arities stored) _ (c .before .enum-told .given .1) in
           rw (zeros k, key-told k x d is m, lt-ltb _ _ (rising .if3 .left), one, kind)
-          (answers _ _ (pair-mirrored _ x d is m _ _ _ (k .key .ensures .0) (small k))),
-    )
+          (answers _ _ (pair-mirrored _ x d is m _ _ _ (k .key .ensures .is) (small k)));
+    }
 
 pub pair-spec : {M : Type 1} → statement M
 pair-spec =

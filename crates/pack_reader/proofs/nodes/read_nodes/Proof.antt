@@ -1,6 +1,6 @@
 -- `pack_reader::nodes::read_nodes` meets its contract. The loop's invariant: some nodes were read and are kept, and the steps of
 -- the records left, with these nodes before, are the steps of all.
-use mathlib.Core.Path.{_≡_, refl, sym, ap, _∙_}
+use mathlib.Core.Path.{_≡_, refl, sym, ap, subst, _∙_}
 use mathlib.Core.Bool.{true, false}
 use mathlib.Core.List.{List, [], _∷_, _++_, append-nil}
 use Prim.Native.Nat.{ℕ, suc, _+_, _*_, _-_, _/_, _≤_, _<_}
@@ -20,11 +20,12 @@ use Rattle.records.specs.Records.{record-at, all-records}
 use Rattle.records.specs.Order.{index, may-follow}
 use Rattle.records.specs.Wanted.{wanted-at}
 use Rattle.records.proofs.Bytes.{drop-records, length-of-records}
+use Rattle.records.proofs.Outcomes.{not-passed, passed-same}
 use Rattle.records.proofs.Table.{kind-of}
 use Rattle.terms.specs.Sides.{Node}
-use Rattle.terms.specs.Kept.{code, codes}
+use Rattle.terms.specs.Kept.{code, codes, Kept}
 use Rattle.packs.proofs.Places.{Inside, at-rule, inside-row, inside-next}
-use Rattle.pack_reader.specs.Stored.{Run, node-outcome, coded, more-run, node-steps, Nodes-read}
+use Rattle.pack_reader.specs.Stored.{Run, node-outcome, coded, more-run, node-steps, Same-before, Nodes-read}
 use Rattle.pack_reader.proofs.Wanted.{found-at, stray-at}
 use Rattle.pack_reader.proofs.NodeSteps.{Small, outcome-small, code-small, code-row, outcome-row, coded-passed, coded-refused, codes-append, steps-stray, steps-refused, steps-read, steps-end, with-nodes, with-none, with-more}
 use Rattle.pack_reader.proofs.nodes.read_nodes.Statement.{statement}
@@ -87,12 +88,12 @@ record So-far (pack : List ℕ) (from count symbols base : ℕ) (before now : Li
   read : List Node
   many : length read ≡ j
   goes-on : after (steps-left pack from count symbols last j) (with-nodes read) ≡ node-steps symbols 2 count (drop from (all-records pack))
-  untouched : take base now ≡ take base before
+  untouched : Same-before base before now
   kept : take j (drop base now) ≡ codes read
 
 abbrev Inv-loop : tie.InvT-loop
 Inv-loop pack from count symbols nodes₀ base n last₀ j₀ nodes last j =
-    (j ≤ count) × Inside last × (length nodes ≡ length nodes₀) × So-far pack from count symbols base nodes₀ nodes last j
+    (j ≤ count) × Inside last × So-far pack from count symbols base nodes₀ nodes last j
 
 abbrev μ-loop : tie.MeasureT-loop
 μ-loop pack from count symbols nodes₀ base n last₀ j₀ nodes last j = count - j
@@ -100,23 +101,29 @@ abbrev μ-loop : tie.MeasureT-loop
 module _ (pack : List ℕ) (from count symbols base : ℕ) (before : List ℕ) where
   start : So-far pack from count symbols base before before 2 0
   unfolding codes
-  start = record { read = []; many = refl; goes-on = rw (sub-zero count, add-zero from) (with-none _); untouched = refl; kept = refl }
+  start = record { read = []; many = refl; goes-on = rw (sub-zero count, add-zero from) (with-none _); untouched = record { long = refl; same = refl }; kept = refl }
 
-  module _ (now : List ℕ) (last j : ℕ) (s : So-far pack from count symbols base before now last j) (same : length now ≡ length before) where
+  module _ (now : List ℕ) (last j : ℕ) (s : So-far pack from count symbols base before now last j) where
     -- a refusal met here is the answer
     refuses : {m : ℕ} (x : Answer) → answer-outcome x ≡ refused m → steps-left pack from count symbols last j ≡ refused m
         → Nodes-read (node-steps symbols 2 count (drop from (all-records pack))) x base before now
-    unfolding Nodes-read
-    refuses x a e = rw (← (s .goes-on), e) (a, same, s .untouched)
+    refuses {m} x a e =
+        let all : node-steps symbols 2 count (drop from (all-records pack)) ≡ refused m = sym (s .goes-on) ∙ rw e in
+        record { answers = rw all a; untouched = s .untouched; kept = λ y p. not-passed (sym all ∙ p) }
 
     -- all nodes are read
     ends : j ≤ count → count ≤ j → base + count ≤ length now
         → Nodes-read (node-steps symbols 2 count (drop from (all-records pack))) (Passed last) base before now
-    unfolding Nodes-read node-steps with-nodes
+    unfolding node-steps with-nodes
     ends h k fits =
         let z : count - j ≡ 0 = omega arith in
-        rw (← (s .goes-on), z, append-nil (s .read))
-        (refl, same, s .untouched, record { within = omega (arith, s .many); are = rw (s .many) (s .kept) })
+        let all : node-steps symbols 2 count (drop from (all-records pack)) ≡ passed (record { nodes = s .read; last = last }) =
+        sym (s .goes-on) ∙ rw (z, append-nil (s .read)) in
+        record {
+          answers = rw all;
+          untouched = s .untouched;
+          kept = λ y p. subst (λ (u : Run). Kept now base (u .nodes)) (passed-same (sym all ∙ p)) (record { within = omega (arith, s .many); are = rw (s .many) (s .kept) });
+        }
 
     -- one node more
     more : {next b : ℕ} → Node-read pack from count symbols last j next b → base + j < length now
@@ -128,7 +135,7 @@ module _ (pack : List ℕ) (from count symbols base : ℕ) (before : List ℕ) w
           read = s .read ++ (n .node ∷ []);
           many = length-append (s .read) (n .node ∷ []) ∙ omega (arith, s .many);
           goes-on = sym (with-more (s .read) (n .node) (steps-left pack from count symbols next (j + 1))) ∙ ap (λ (o : Outcome Run). after o (with-nodes (s .read))) (sym (n .then)) ∙ s .goes-on;
-          untouched = take-set-le base now (base + j) b (omega arith) ∙ s .untouched;
+          untouched = record { long = length-set now (base + j) b ∙ s .untouched .long; same = take-set-le base now (base + j) b (omega arith) ∙ s .untouched .same };
           kept = rw (drop-set-add base now j b, add-one j, take-suc-set (drop base now) j b l, codes-append (s .read), s .kept, n .byte-is);
         }
 
@@ -164,20 +171,20 @@ read c =
 file-end : tie.Need-returns Inv-loop μ-loop
 file-end c =
     let l = c .before .before .loop in
-    refuses _ _ _ _ _ _ _ (l .last) (l .j) (l .inv .3) (l .inv .2) _ refl (none-stands _ _ _ _ (l .last) (l .j) (c .before .loop-test .taken) (c .if1 .taken))
+    refuses _ _ _ _ _ _ _ (l .last) (l .j) (l .inv .2) _ refl (none-stands _ _ _ _ (l .last) (l .j) (c .before .loop-test .taken) (c .if1 .taken))
 
 stray-record : tie.Need-returns-2 Inv-loop μ-loop
 stray-record c =
     let t = c .before .before .before in
     let l = t .before .before .loop in
-    refuses _ _ _ _ _ _ _ (l .last) (l .j) (l .inv .3) (l .inv .2) _ refl (stray _ _ _ _ (l .last) (l .j) (t .before .loop-test .taken) (t .if1 .left) (strayed c))
+    refuses _ _ _ _ _ _ _ (l .last) (l .j) (l .inv .2) _ refl (stray _ _ _ _ (l .last) (l .j) (t .before .loop-test .taken) (t .if1 .left) (strayed c))
 
 bad-node : tie.Need-returns-3 Inv-loop μ-loop
 bad-node c =
     let w = c .before .before .before .before in
     let t = w .before .before .before .before in
     let l = t .before .before .loop in
-    refuses _ _ _ _ _ _ _ (l .last) (l .j) (l .inv .3) (l .inv .2) _ refl
+    refuses _ _ _ _ _ _ _ (l .last) (l .j) (l .inv .2) _ refl
     (node-refused _ _ _ _ (l .last) (l .j) (t .before .loop-test .taken) (t .if1 .left) (found w)
     (sym (ap answer-outcome (c .before .x .given .1)) ∙ c .before .before .before .node-code .ensures))
 
@@ -185,13 +192,13 @@ again : tie.Need-loop-again Inv-loop μ-loop
 again c =
     let l = c .before .before .before .before .before .before .before .before .before .before .loop in
     let n = read c in
-    let step = more _ _ _ _ _ _ (l .nodes) (l .last) (l .j) (l .inv .3) (l .inv .2) n (omega arith) in
-    (omega arith, n .inside, simp length-set (omega arith), step)
+    let step = more _ _ _ _ _ _ (l .nodes) (l .last) (l .j) (l .inv .2) n (omega arith) in
+    (omega arith, n .inside, step)
 
 all-read : tie.Need-returns-4 Inv-loop μ-loop
 all-read c =
     let l = c .before .loop in
-    ends _ _ _ _ _ _ (l .nodes) (l .last) (l .j) (l .inv .3) (l .inv .2) (l .inv .0) (c .loop-test .left) (omega arith)
+    ends _ _ _ _ _ _ (l .nodes) (l .last) (l .j) (l .inv .2) (l .inv .0) (c .loop-test .left) (omega arith)
 
 pub read-nodes-spec : {M : Type 1} → statement M
 read-nodes-spec =
@@ -199,7 +206,7 @@ read-nodes-spec =
     (tie.spec
     Inv-loop
     μ-loop
-    (λ c. (omega arith, at-rule, refl, start _ _ _ _ _ _))
+    (λ c. (omega arith, at-rule, start _ _ _ _ _ _))
     (λ c. omega arith)
     (λ c. omega arith)
     file-end

@@ -49,7 +49,7 @@ flag-defined-spec =
     (λ c. omega arith)
     (λ c. omega arith)
     (λ c. omega (arith, c .shared-slice-known3 .given (2 * c .before .before .loop .i)))
-    (λ c. c .before .before .before .before .before .before .before .before .before .before .before .pre .3 (c .before .before .before .loop .i) (c .before .before .loop-test .taken))
+    (λ c. c .before .before .before .before .before .before .before .before .before .before .before .pre .within (c .before .before .before .loop .i) (c .before .before .loop-test .taken))
     (λ c. omega (arith, c .shared-slice-known4 .given (getD (c .before .before .before .before .before .before .before .before .before .before .before .args .starts .now) (2 * c .before .before .before .loop .i) 0)))
     (λ c. omega arith)
     (λ c. omega arith)

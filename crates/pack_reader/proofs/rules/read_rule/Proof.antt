@@ -24,9 +24,9 @@ use Rattle.pack_reader.proofs.rules.read_rule.Tie as tie
 -- the nodes were refused
 nodes-refused : (o : Outcome Run) {a : Answer} (x : Refusal) (l base : ℕ) (ar before now : List ℕ) → a ≡ Refused x → Nodes-read o a base before now
     → Rule-read o l ar (Refused x) base before now
-unfolding Nodes-read Rule-read
-nodes-refused (refused n) x l base ar before now e h = (ap answer-outcome (sym e) ∙ h .0, h .1, h .2)
-nodes-refused (passed y) x l base ar before now e h = not-passed (ap answer-outcome (sym e) ∙ h .0)
+nodes-refused (refused n) x l base ar before now e h =
+    record { answers = ap answer-outcome (sym e) ∙ h .answers; untouched = h .untouched; kept = h .kept }
+nodes-refused (passed y) x l base ar before now e h = not-passed (ap answer-outcome (sym e) ∙ h .answers)
 
 -- the nodes were read: their bytes are judged
 module _ (symbols b c base last : ℕ) (rs : List Record) (ar before now : List ℕ) where
@@ -45,12 +45,11 @@ module _ (symbols b c base last : ℕ) (rs : List Record) (ar before now : List 
   nodes-judged : {a : Answer} (j x : Answer) (o : Outcome Run) → node-steps symbols 2 (b + c) rs ≡ o → a ≡ Passed last → Nodes-read o a base before now
       → answer-outcome j ≡ rule-judged ar (part now base (base + b)) (part now (base + b) (base + b + c)) → answer-outcome x ≡ after (answer-outcome j) (λ k. passed last)
       → Rule-read o b ar x base before now
-  unfolding Nodes-read Rule-read
-  nodes-judged j x (refused n) e is h judged told = not-passed (sym (h .0) ∙ ap answer-outcome is)
+  nodes-judged j x (refused n) e is h judged told = not-passed (sym (h .answers) ∙ ap answer-outcome is)
   nodes-judged j x (passed y) e is h judged told =
-      let s = sides-kept y (nodes-told symbols 2 (b + c) rs y e .many) (h .3) in
-      let row : last ≡ y .last = passed-same (ap answer-outcome (sym is) ∙ h .0) in
-      (rw (← (s .0), ← (s .1), ← judged, ← row) told, h .1, h .2, h .3)
+      let s = sides-kept y (nodes-told symbols 2 (b + c) rs y e .many) (h .kept y refl) in
+      let row : last ≡ y .last = passed-same (ap answer-outcome (sym is) ∙ h .answers) in
+      record { answers = rw (← (s .0), ← (s .1), ← judged, ← row) told; untouched = h .untouched; kept = h .kept }
 
 refused-nodes : tie.Need-returns
 refused-nodes c =

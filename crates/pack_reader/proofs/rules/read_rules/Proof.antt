@@ -101,8 +101,8 @@ same : (c : tie.After-enum-told2 Inv-loop μ-loop)
     (length (t .before .loop .starts) ≡ length (a .starts .now)) × (length (t .before .loop .nodes) ≡ length (a .nodes .now))
 same c =
     let t = c .before .before .before .before .before .before .before .before .before in
-    let pre = t .before .before .before .before .before .before .before .pre in
-    omega (arith, pre .0, t .before .loop .inv)
+    let asked = t .before .before .before .before .before .before .before .pre in
+    omega (arith, asked, t .before .loop .inv)
 
 stray-record : tie.Need-returns Inv-loop μ-loop
 stray-record c =
@@ -117,9 +117,9 @@ head-refused c =
     let r = h .before .before .before .before in
     let t = r .before .before .before in
     let l = t .before .loop in
-    let pre = t .before .before .before .before .before .before .before .pre in
+    let asked = t .before .before .before .before .before .before .before .pre in
     refuses _ _ _ _ _ _ refl
-    (header-refuses _ _ _ (omega arith) _ _ (l .last) (l .at) (l .base) (l .i) (l .inv .4) (t .loop-test .taken) (r .r .given .0 .0) (found r) (pre .1) _
+    (header-refuses _ _ _ (omega arith) _ _ (l .last) (l .at) (l .base) (l .i) (l .inv .4) (t .loop-test .taken) (r .r .given .0 .0) (found r) (asked .no-symbol-more) _
     (sym (h .header .ensures) ∙ ap answer-outcome (c .before .x .given .1)))
 
 rule-refused : tie.Need-returns-3 Inv-loop μ-loop
@@ -129,9 +129,9 @@ rule-refused c =
     let r = e .before .before .before .before .before .before in
     let t = r .before .before .before in
     let l = t .before .loop in
-    let pre = t .before .before .before .before .before .before .before .pre in
+    let asked = t .before .before .before .before .before .before .before .pre in
     refuses _ _ _ _ _ _ refl
-    (rule-refuses _ _ _ (omega arith) _ _ (l .last) (l .at) (l .base) (l .i) (l .inv .4) (t .loop-test .taken) (r .r .given .0 .0) (found r) (pre .1) (pre .0 .2) _ (head e)
+    (rule-refuses _ _ _ (omega arith) _ _ (l .last) (l .at) (l .base) (l .i) (l .inv .4) (t .loop-test .taken) (r .r .given .0 .0) (found r) (asked .no-symbol-more) (asked .symbols-few) _ (head e)
     _ _ (n .read-rule .ensures) _ (ap answer-outcome (c .before .x2 .given .1)))
 
 -- the bounds that a turn leaves
@@ -144,8 +144,8 @@ turn c =
     let e = c .before .before .before .before .before .before .before .before .before .before .before in
     let t = e .before .before .before .before .before .before .before .before .before in
     let f = told e in
-    let pre = t .before .before .before .before .before .before .before .pre in
-    (f .few, omega (arith, t .loop-test .taken, pre .0), f .left-few, f .right-few)
+    let asked = t .before .before .before .before .before .before .before .pre in
+    (f .few, omega (arith, t .loop-test .taken, asked .file), f .left-few, f .right-few)
 
 again : tie.Need-loop-again Inv-loop μ-loop
 again c =
@@ -156,7 +156,7 @@ again c =
     let r = e .before .before .before .before .before .before in
     let t = r .before .before .before in
     let l = t .before .loop in
-    let pre = t .before .before .before .before .before .before .before .pre in
+    let asked = t .before .before .before .before .before .before .before .pre in
     let f = told e in
     let i = l .inv in (
       omega arith,
@@ -164,7 +164,7 @@ again c =
       rw (k .keep-ends .ensures) (simp length-set (l .inv .2)),
       omega (arith, n .read-rule .kept),
       rw (k .keep-ends .ensures)
-          (more _ _ _ (omega arith) _ _ (l .last) (l .at) (l .base) (l .i) (l .inv .4) (t .loop-test .taken) (r .r .given .0 .0) (found r) (pre .1) (pre .0 .2) _ (head e)
+          (more _ _ _ (omega arith) _ _ (l .last) (l .at) (l .base) (l .i) (l .inv .4) (t .loop-test .taken) (r .r .given .0 .0) (found r) (asked .no-symbol-more) (asked .symbols-few) _ (head e)
           _ _ (n .read-rule .ensures) _ (ap answer-outcome (w .row .given .1)) (omega arith)),
     )
 

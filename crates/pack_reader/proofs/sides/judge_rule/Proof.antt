@@ -38,15 +38,15 @@ module _ (ar ns : List ℕ) (left right end : ℕ) (l : balanced ar 1 (part ns l
       rw (l, r, first, lt-ltb _ _ e, all, seen-variables sn long (part ns left right) seen (part ns right end))
 
 returns : tie.Need-returns
-returns c = left-broken _ _ _ (sym (c .before .before .left-side .ensures .0) ∙ not-true _ (c .if1 .taken))
+returns c = left-broken _ _ _ (sym (c .before .before .left-side .ensures .told) ∙ not-true _ (c .if1 .taken))
 
 returns-2 : tie.Need-returns-2
 returns-2 c =
     let r = c .before .before in
     let l = r .before .before in
     right-broken _ _ _
-    (sym (l .before .before .left-side .ensures .0) ∙ not-false _ (l .if1 .left))
-    (sym (r .right-side .ensures .0) ∙ not-true _ (c .if2 .taken))
+    (sym (l .before .before .left-side .ensures .told) ∙ not-false _ (l .if1 .left))
+    (sym (r .right-side .ensures .told) ∙ not-true _ (c .if2 .taken))
 
 returns-3 : tie.Need-returns-3
 returns-3 c =
@@ -54,8 +54,8 @@ returns-3 c =
     let r = e .before .before in
     let l = r .before .before in
     bare-left _ _ _ _ _
-    (sym (l .before .before .left-side .ensures .0) ∙ not-false _ (l .if1 .left))
-    (sym (r .right-side .ensures .0) ∙ not-false _ (e .if2 .left))
+    (sym (l .before .before .left-side .ensures .told) ∙ not-false _ (l .if1 .left))
+    (sym (r .right-side .ensures .told) ∙ not-false _ (e .if2 .left))
     (omega arith)
     (omega arith)
     (c .if3 .taken)
@@ -73,18 +73,18 @@ judged c =
     let s = l .before .before .left-side in
     let one = not-false _ (l .if1 .left) in
     let other = not-false _ (e .if2 .left) in
-    let p = l .before .before .before .before .before .before .pre in
+    let asked = l .before .before .before .before .before .before .pre in
     by-variables _ _ _ _ _
-    (sym (s .ensures .0) ∙ one)
-    (sym (r .right-side .ensures .0) ∙ other)
-    (p .1)
-    (omega (arith, p .2, p .3))
+    (sym (s .ensures .told) ∙ one)
+    (sym (r .right-side .ensures .told) ∙ other)
+    (asked .left-some)
+    (omega (arith, asked .ordered, asked .within))
     (c .if3 .left)
     _
     _
-    (r .right-side .ensures .1 other)
-    (s .ensures .1)
-    (s .ensures .2 one)
+    (r .right-side .ensures .all-told other)
+    (s .ensures .long)
+    (s .ensures .variables one)
 
 returns-4 : tie.Need-returns-4
 returns-4 c = rw (c .if4 .taken) at (judged (c .before))

@@ -35,13 +35,17 @@ module _ (ns : List ℕ) (from i : ℕ) (sn : List Bool) (h : from ≤ i) (k : i
 first : tie.Need-loop-holds Inv-loop μ-loop
 first c = (
   (omega arith, omega arith, omega arith, refl),
-  (rw (c .pre .4), rw (c .pre .4, part-none _ (c .args .from) (c .args .from) (omega arith)) seen-none),
+  (rw (c .pre .1), rw (c .pre .1, part-none _ (c .args .from) (c .args .from) (omega arith)) seen-none),
 )
 
 returns : tie.Need-returns Inv-loop μ-loop
 returns c =
     let l = c .before .before .loop in
-    (too-many _ _ _ _ _ _ (l .inv .0) (c .before .loop-test .taken) (omega arith) (c .if1 .taken), l .inv .1 .0, λ e. absurd (false≢true e))
+    record {
+      told = too-many _ _ _ _ _ _ (l .inv .0) (c .before .loop-test .taken) (omega arith) (c .if1 .taken);
+      long = l .inv .1 .0;
+      variables = λ e. absurd (false≢true e);
+    }
 
 again : tie.Need-loop-again Inv-loop μ-loop
 again c =
@@ -63,7 +67,7 @@ returns-2 : tie.Need-returns-2 Inv-loop μ-loop
 returns-2 c =
     let l = c .before .loop in
     let z : l .i ≡ c .before .before .args .to = omega arith in
-    (all-read _ _ _ _ _ _ (l .inv .0) (c .loop-test .left), l .inv .1 .0, λ e. rw z at (l .inv .1 .1))
+    record { told = all-read _ _ _ _ _ _ (l .inv .0) (c .loop-test .left); long = l .inv .1 .0; variables = λ e. rw z at (l .inv .1 .1) }
 
 pub left-side-spec : {M : Type 1} → statement M
 left-side-spec =
@@ -72,7 +76,7 @@ left-side-spec =
     Inv-loop
     μ-loop
     first
-    (λ c. omega (arith, ap length (c .before .before .before .pre .4)))
+    (λ c. omega (arith, ap length (c .before .before .before .pre .1)))
     returns
     (λ c. omega arith)
     (λ c. omega (arith, c .shared-slice-known .given (c .before .before .before .loop .i)))
@@ -84,5 +88,5 @@ left-side-spec =
     (λ c. omega arith)
     (λ c. omega arith)
     again
-    (λ c. omega (arith, ap length (c .before .before .pre .4)))
+    (λ c. omega (arith, ap length (c .before .before .pre .1)))
     returns-2)

@@ -52,7 +52,10 @@ all-passed sn ns from to i b closed h = sym (and-true b) ∙ rw (part-none ns i 
 returns : tie.Need-returns Inv-loop μ-loop
 returns c =
     let l = c .before .before .loop in
-    (too-many _ _ _ _ _ _ (l .inv .0) (c .before .loop-test .taken) (omega arith) (c .if1 .taken), λ e. absurd (false≢true e))
+    record {
+      told = too-many _ _ _ _ _ _ (l .inv .0) (c .before .loop-test .taken) (omega arith) (c .if1 .taken);
+      all-told = λ e. absurd (false≢true e);
+    }
 
 again : tie.Need-loop-again Inv-loop μ-loop
 again c =
@@ -74,7 +77,10 @@ again c =
 returns-2 : tie.Need-returns-2 Inv-loop μ-loop
 returns-2 c =
     let l = c .before .loop in
-    (all-read _ _ _ _ _ _ (l .inv .0) (c .loop-test .left), λ e. all-passed _ _ _ _ _ (l .closed) (l .inv .1) (c .loop-test .left))
+    record {
+      told = all-read _ _ _ _ _ _ (l .inv .0) (c .loop-test .left);
+      all-told = λ e. all-passed _ _ _ _ _ (l .closed) (l .inv .1) (c .loop-test .left);
+    }
 
 pub right-side-spec : {M : Type 1} → statement M
 right-side-spec =
