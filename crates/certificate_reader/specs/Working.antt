@@ -7,6 +7,7 @@ use mathlib.Core.Option.{Option, none, some}
 use Prim.Native.Nat.{ℕ, _+_, _*_, _≤_, _<_}
 use lib.Dec.{ltb}
 use lib.ListN.{length}
+use Rattle.terms.specs.Kept.{symbols-room}
 use Rattle.rewriting.specs.Pairs.{Pair}
 use Rattle.records.specs.declared.Record.{Record}
 use Rattle.records.specs.declared.Answer.{Answer}
@@ -89,18 +90,18 @@ pub record Stepped-as (s : State) (t : Stepped) (Means : Type 0) : Type 0 where
 -- a P record is to be read while pairs are due
 pub record Pair-asked (s : State) (rules : ℕ) (starts nodes flags : List ℕ) : Type 0 where
   pub laid : Laid starts nodes rules
-  pub flags-long : length flags ≡ most-symbols
+  pub flags-long : length flags ≡ symbols-room
   pub due : 1 ≤ s .due
 
 -- a place of a symbol is asked for
 pub record Place-asked (symbols : ℕ) (arities : List ℕ) : Type 0 where
-  pub arities-long : length arities ≡ most-symbols
+  pub arities-long : length arities ≡ symbols-room
   pub symbols-few : symbols ≤ most-symbols
 
 -- a place of a tuple symbol
 pub record Marked-place-asked (symbols : ℕ) (arities flags : List ℕ) : Type 0 where
   pub place : Place-asked symbols arities
-  pub flags-long : length flags ≡ most-symbols
+  pub flags-long : length flags ≡ symbols-room
 
 -- a W record is to be read in a component with a weighting, and an M record
 pub record Weight-asked (s : State) (symbols : ℕ) (arities : List ℕ) : Type 0 where

@@ -15,17 +15,16 @@ use Rattle.packs.specs.Encoding.{Good-pack}
 use Rattle.pairs.specs.Listing.{a-pair}
 use Rattle.polynomials.specs.Polynomials.{Weight, Weighting}
 use Rattle.certificates.specs.Components.{Component, no-component, Weights-rise}
-use Rattle.certificates.specs.CertificateReading.{is-place}
-use Rattle.certificates.specs.CertificateReading as certificates
+use Rattle.certificates.specs.CertificateReading.{is-place, components-from}
 use Rattle.certificates.specs.Encoding.{no-weight}
 use Rattle.certificates.proofs.Shapes.{Weighting-shaped, At-place}
 use Rattle.certificates.proofs.OnlyEncodings.{records-only}
 use Rattle.judging.specs.Shown.{nth}
 use Rattle.partition.specs.Working.{All-pairs, Judgeable}
 use Rattle.partition.proofs.FromRead.{shape}
-use Rattle.checker.specs.Working.{Fillable, Component-fits, Components-from}
+use Rattle.checker.specs.Working.{Fillable, Component-fits, Components-asked}
 
-module _ (p : System) (ds : List ℕ) (cs : List Component) (read : certificates.components-from p components-start (all-records ds) ≡ passed cs) where
+module _ (p : System) (ds : List ℕ) (cs : List Component) (read : components-from p components-start (all-records ds) ≡ passed cs) where
   module _ (g : Good-pack p) where
     fillable : (ws : List Weight) → Weights-rise ws → Each (At-place p) ws → Fillable ws
     unfolding is-place
@@ -59,18 +58,19 @@ module _ (p : System) (ds : List ℕ) (cs : List Component) (read : certificates
         }
 
 -- all components, for the judging of each in turn
-pub all-fit : (p : System) (ds : List ℕ) (cs : List Component) → certificates.components-from p components-start (all-records ds) ≡ passed cs → Good-pack p → (i : ℕ) → i < length cs → Component-fits p (getD cs i no-component)
+pub all-fit : (p : System) (ds : List ℕ) (cs : List Component) → components-from p components-start (all-records ds) ≡ passed cs → Good-pack p → (i : ℕ) → i < length cs → Component-fits p (getD cs i no-component)
 unfolding nth
 all-fit p ds cs read g i h = read-fits p ds cs read g i h
 
-abbrev pub components-from :
-    (p : System) (ds : List ℕ) (components rules : ℕ) (ar ss ns ms : List ℕ) (j : Judgeable p ds components rules ar ss ns ms) → Components-from p ds components rules ar ss ns ms
-components-from p ds components rules ar ss ns ms j =
+abbrev pub components-asked :
+    {ds : List ℕ} {components rules : ℕ} {ar ss ns ms : List ℕ} → Judgeable ds components rules ar ss ns ms → Components-asked ds components rules ar ss ns ms
+components-asked {ds} j =
+    let p = j .kept .system in
     record {
-      symbols = j .symbols;
-      stored = j .stored;
+      file = j .file;
+      kept = j .kept;
       all = j .all;
       counted = j .counted;
       are = records-only p (all-records ds) (j .all) (j .read);
-      fit = all-fit p ds (j .all) (j .read) (j .stored .good);
+      fit = all-fit p ds (j .all) (j .read) (j .kept .stored .good);
     }

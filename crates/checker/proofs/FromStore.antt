@@ -23,9 +23,10 @@ use Rattle.weights.specs.declared.Verdict.{Verdict}
 use Rattle.polynomials.specs.Polynomials.{Weight, Weighting}
 use Rattle.polynomials.specs.Limit.{over}
 use Rattle.polynomials.proofs.Lists.{mem-at, any-false-mem}
-use Rattle.polynomials.specs.Judging.{any, rule-over, rule-rises, call-over, call-falls}
+use Rattle.polynomials.specs.Judging.{rule-over, rule-rises, call-over, call-falls}
 use Rattle.weights.specs.Working.{Weighable, Applied, verdict}
 use Rattle.judging.specs.Judge.{call}
+use Rattle.checker.specs.Working.{rules-over}
 
 -- a subterm ends within the term
 subterm-inside : (t : Tree) (k : ℕ) → k < length (subterms t) → k + length (flat (getD (subterms t) k nil)) ≤ length (flat t)
@@ -80,9 +81,9 @@ subterms-within ws (cons t ts) h =
     each-append (subterms-within ws t (or-left-false (over ws t) (over ws ts) h)) (subterms-within ws ts (or-right-false (over ws t) (over ws ts) h))
 
 rule-within :
-    (p : System) (ws vs : List Weight) (i : ℕ) → i < length (p .rules) → any (rule-over (weighting ws vs)) (p .rules) ≡ false →
+    (p : System) (ws vs : List Weight) (i : ℕ) → i < length (p .rules) → rules-over p ws vs ≡ false →
     (over ws (rule p i .left) ≡ false) × (over ws (rule p i .right) ≡ false)
-unfolding rule rule-over
+unfolding rule rule-over rules-over
 rule-within p ws vs i h none =
     let r = any-false-mem (rule-over (weighting ws vs)) (mem-at no-rule (p .rules) i h) none in
     (or-left-false (over ws (rule p i .left)) (over ws (rule p i .right)) r, or-right-false (over ws (rule p i .left)) (over ws (rule p i .right)) r)
@@ -175,7 +176,7 @@ module _ {p : System} {symbols rules : ℕ} {ar ss ns ms : List ℕ} (s : Stored
 
     -- what is answered of the terms kept there is said of the pair
     pub call-answer :
-        (ws vs : List Weight) {x : Verdict} → any (rule-over (weighting ws vs)) (p .rules) ≡ false →
+        (ws vs : List Weight) {x : Verdict} → rules-over p ws vs ≡ false →
         ((l : Applied ar ns (getD ss (2 * q .at-rule) 0) (getD ss (2 * q .at-rule + 1) 0 - getD ss (2 * q .at-rule) 0)) (m : Applied ar ns right-begins (right-ends - right-begins)) →
         over ws (arguments (l .side .term)) ≡ false → over ws (arguments (m .side .term)) ≡ false →
         x ≡ verdict (call-over (weighting ws vs) (record { left = l .side .term; right = m .side .term })) (call-falls (weighting ws vs) (record { left = l .side .term; right = m .side .term }))) →

@@ -88,7 +88,7 @@ after-weights (m ∷ ms) i cs r rs e k =
 
 -- A COMPONENT
 
-module _ (cert : List ℕ) (at : ℕ) (c : Component) (here : Component-at cert at c) where
+module _ {cert : List ℕ} {at : ℕ} {c : Component} (here : Component-at cert at c) where
   abbrev later : List Record
   later = component-records (suc (here .i)) (here .others)
 
@@ -99,8 +99,11 @@ module _ (cert : List ℕ) (at : ℕ) (c : Component) (here : Component-at cert 
   unfolding component-records
   from-header = here .are
 
-  pub header-here : (at < length cert / 8) × (record-at cert (8 * at) ≡ header)
+  header-here : (at < length cert / 8) × (record-at cert (8 * at) ≡ header)
   header-here = record-here cert at from-header
+
+  pub header-within : at < length cert / 8
+  header-within = header-here .0
 
   -- what the C record tells
   module _ {r : Record} (read : r ≡ record-at cert (8 * at)) where
@@ -126,7 +129,7 @@ module _ (cert : List ℕ) (at : ℕ) (c : Component) (here : Component-at cert 
       rw e (records-after cert (at + 1 + length (c .pairs)) (weighting-records (c .weightings)) from-weights (weighting-records-long (c .weightings)))
 
   -- with one weighting
-  module _ (p : System) (fits : Component-fits p c) (w : Weighting) (one : c .weightings ≡ w ∷ []) where
+  module _ {p : System} (fits : Component-fits p c) (w : Weighting) (one : c .weightings ≡ w ∷ []) where
     from-plain : drop (at + 1 + length (c .pairs)) (all-records cert) ≡ weight-records W-weight (w .weights) ++ (weight-records M-marked (w .marked) ++ later)
     unfolding weighting-records
     from-plain = rw (one, append-nil, append-assoc) at from-weights

@@ -8,17 +8,17 @@ use Prim.Native.Nat.{ℕ}
 use native.Mathlib.Nat.{le-of-lt}
 use lib.Dec.{ltb, eqb}
 use borrow.Author.Tests.{ltb-true, le-leb}
-use Rattle.rewriting.specs.Terms.{Rule}
+use Rattle.rewriting.specs.Terms.{System, Rule}
 use Rattle.rewriting.proofs.Basics.{and-left, and-right}
 use Rattle.records.specs.Outcomes.{Outcome, refused, passed}
 use Rattle.weights.specs.declared.Verdict.{Verdict}
 use Rattle.weights.specs.declared.Verdict.the-variants.{Over, Fails, Holds}
-use Rattle.polynomials.specs.Polynomials.{Weighting, marked-polynomial, at-least, greater, each-at-least}
+use Rattle.polynomials.specs.Polynomials.{Weight, Weighting, marked-polynomial, at-least, greater, each-at-least}
 use Rattle.polynomials.specs.Judging.{Call, no-call, any, without, is-none, rule-over, rule-rises, call-over, call-rises, call-falls, weightings-refusal}
 use Rattle.weights.specs.Working.{verdict}
 use Rattle.polynomials.proofs.Lists.{none-pass, all-leave}
 use Rattle.weights.proofs.Working.{verdict-over, verdict-fails, verdict-holds}
-use Rattle.checker.specs.Working.{chosen}
+use Rattle.checker.specs.Working.{is-over, rules-over, rules-verdict, chosen}
 
 -- ONE AFTER ANOTHER
 
@@ -134,7 +134,14 @@ module _ (w : Weighting) where
   chosen-number rs cs next =
       by-tests (any (rule-over w) rs) (any (rule-rises w) rs) (any (call-over w) cs) (calls-hold cs) (any (call-rises w) cs) next (none-rises cs)
 
--- what is not over has no part that is
-pub not-over : (v : Verdict) (passes holds : Bool) → v ≡ verdict passes holds → (v ≡ Over → ⊥) → passes ≡ false
-not-over v true holds e h = absurd (h (e ∙ verdict-over true holds .1 refl))
-not-over v false holds e h = refl
+-- no rule is over where the verdict on them is not
+not-over : (passes holds : Bool) → is-over (verdict passes holds) ≡ false → passes ≡ false
+unfolding is-over verdict
+not-over true holds h = h
+not-over false holds h = refl
+
+pub none-over : (p : System) (ws ms : List Weight) {v : Verdict} → v ≡ rules-verdict p ws ms → is-over v ≡ false → rules-over p ws ms ≡ false
+unfolding rules-verdict rules-over
+none-over p ws ms is h =
+    let w : Weighting = record { weights = ws; marked = ms } in
+    not-over (any (rule-over w) (p .rules)) (not (any (rule-rises w) (p .rules))) (rw is at h)

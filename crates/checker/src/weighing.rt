@@ -1,29 +1,20 @@
 // The weights of a component in the table, and all rules and its pairs under them.
 use records::Record;
-use terms::MOST_NODES;
 use terms::MOST_SYMBOLS;
 use terms::Marked;
+use terms::NODES_ROOM;
 use terms::Symbol;
 use weights::Verdict;
 use weights::sums::SUMS;
 use weights::table::CELLS;
 ghost use mathlib.Core.Path.{_≡_};
-ghost use mathlib.Core.Bool.{true, false, not};
-ghost use mathlib.Core.List.{List, []};
-ghost use Prim.Native.Nat.{ℕ, _+_, _*_, _%_, _≤_, _<_};
-ghost use lib.ListN.{length, set};
-ghost use Rattle.rewriting.specs.Terms.{System};
-ghost use Rattle.rewriting.specs.Pairs.{Pair};
-ghost use Rattle.records.specs.Order.{W-weight};
-ghost use Rattle.pack_reader.specs.Stored.{Stored};
+ghost use mathlib.Core.Bool.{true, false};
+ghost use mathlib.Core.List.{List};
+ghost use Prim.Native.Nat.{_+_, _*_, _≤_, _<_};
+ghost use lib.ListN.{set};
 ghost use Rattle.polynomials.specs.Polynomials.{Weight};
-ghost use Rattle.polynomials.specs.Judging.{any, is-none, without, rule-over, rule-rises, call-over, call-falls};
-ghost use Rattle.weights.specs.Table.{Cells-are, Table-is, Marked-is};
-ghost use Rattle.weights.specs.Working.{verdict};
-ghost use Rattle.judging.specs.Judge.{calls};
-ghost use Rattle.pair_finder.specs.Walking.{Kept-pack};
-ghost use Rattle.partition.specs.Working.{All-pairs};
-ghost use Rattle.checker.specs.Working.{Weights-at, Same-weights, Pairs-at, own-base, Others-stay};
+ghost use Rattle.weights.specs.Table.{Table-is, Marked-is};
+ghost use Rattle.checker.specs.Working.{own-base, rules-over, rules-verdict, calls-verdict, Fill-asked, Filled, Clear-asked, Cleared, Same-record, Weights-agree, Rules-asked, Pairs-asked};
 
 // Above the number of every rule.
 const NO_RULE: usize = 65536;
@@ -43,9 +34,8 @@ fn store(table: &mut [u16; CELLS], r: Record, value: u16)
 
 // Fills the table from the weight records of a kind that stand from record `from` on. Answers the record after them.
 pub fn fill(certificate: &[u8], from: usize, kind: u8, table: &mut [u16; CELLS]) -> usize
-    requires { ⌜ (length (now certificate) % 8 ≡ 0) × (length (now certificate) ≤ 24576) × Cells-are (own-base kind) (now table) [] × ((ws : List Weight) × Weights-at (now certificate) from kind ws) ⌝ }
-    ensures filled { λ r. ⌜ ((ws : List Weight) → Weights-at (now (certificate .entry)) from kind ws → (r ≡ from + length ws) × Cells-are (own-base kind) (now (table .exit)) ws) ⌝ }
-    ensures others { λ _. ⌜ Others-stay kind (now (table .entry)) (now (table .exit)) ⌝ }
+    requires { ⌜ Fill-asked (now certificate) from kind (now table) ⌝ }
+    ensures { λ r. ⌜ Filled (now (certificate .entry)) from kind (now (table .entry)) (now (table .exit)) r ⌝ }
 {
     let n = certificate.len() / 8;
     let mut at = from;
@@ -62,9 +52,8 @@ pub fn fill(certificate: &[u8], from: usize, kind: u8, table: &mut [u16; CELLS])
 
 // Clears the table by the weight records that filled it, which stand from record `from` on.
 pub fn clear(certificate: &[u8], from: usize, kind: u8, table: &mut [u16; CELLS])
-    requires { ⌜ ((ws : List Weight) × Weights-at (now certificate) from kind ws × Cells-are (own-base kind) (now table) ws) ⌝ }
-    ensures cleared { λ _. ⌜ Cells-are (own-base kind) (now (table .exit)) [] ⌝ }
-    ensures others { λ _. ⌜ Others-stay kind (now (table .entry)) (now (table .exit)) ⌝ }
+    requires { ⌜ Clear-asked (now certificate) from kind (now table) ⌝ }
+    ensures { λ _. ⌜ Cleared kind (now (table .entry)) (now (table .exit)) ⌝ }
 {
     let n = certificate.len() / 8;
     let mut at = from;
@@ -80,7 +69,7 @@ pub fn clear(certificate: &[u8], from: usize, kind: u8, table: &mut [u16; CELLS]
 
 // Whether two records are of one kind and have the same numbers.
 fn same_record(x: Record, y: Record) -> bool
-    ensures { λ r. ⌜ (r ≡ true → (x .kind ≡ y .kind) × (x .a ≡ y .a) × (x .b ≡ y .b) × (x .c ≡ y .c)) ⌝ }
+    ensures { λ r. ⌜ (r ≡ true → Same-record x y) ⌝ }
 {
     if x.kind != y.kind {
         return false;
@@ -101,7 +90,7 @@ fn same_record(x: Record, y: Record) -> bool
 // differ, where they end the file, and where `before` is 0, which stands for none.
 pub fn same_weights(certificate: &[u8], before: usize, from: usize) -> usize
     requires { ⌜ before < from ⌝ }
-    ensures { λ r. ⌜ (0 < r → (0 < before) × ((vs ws : List Weight) → Weights-at (now (certificate .entry)) before W-weight vs → Weights-at (now (certificate .entry)) from W-weight ws → Same-weights vs ws from r)) ⌝ }
+    ensures { λ r. ⌜ (0 < r → Weights-agree (now (certificate .entry)) before from r) ⌝ }
 {
     if before == 0 {
         return 0;
@@ -132,12 +121,11 @@ pub fn judge_rules(
     arities: &[u8; MOST_SYMBOLS],
     table: &[u16; CELLS],
     starts: &[u16],
-    nodes: &[u8; MOST_NODES],
-    defined: &[u8],
+    nodes: &[u8; NODES_ROOM],
     rules: usize,
 ) -> Verdict
-    requires { ⌜ Kept-pack rules (now arities) (now starts) (now nodes) (now defined) × ((p : System) × (symbols : ℕ) × Stored p symbols rules (now arities) (now starts) (now nodes) (now defined)) ⌝ }
-    ensures { λ r. ⌜ ((p : System) (symbols : ℕ) (ws ms : List Weight) → Stored p symbols rules (now (arities .entry)) (now (starts .entry)) (now (nodes .entry)) (now (defined .entry)) → Table-is (now (table .entry)) ws → r ≡ verdict (any (rule-over (record { weights = ws; marked = ms })) (p .rules)) (not (any (rule-rises (record { weights = ws; marked = ms })) (p .rules)))) ⌝ }
+    requires { ⌜ Rules-asked rules (now arities) (now starts) (now nodes) ⌝ }
+    ensures { λ r. ⌜ ((a : Rules-asked rules (now (arities .entry)) (now (starts .entry)) (now (nodes .entry))) (ws ms : List Weight) → Table-is (now (table .entry)) ws → r ≡ rules-verdict (a .kept .system) ws ms) ⌝ }
 {
     let mut failed = false;
     let mut i = 0;
@@ -171,12 +159,11 @@ pub fn judge_pairs(
     arities: &[u8; MOST_SYMBOLS],
     table: &[u16; CELLS],
     starts: &[u16],
-    nodes: &[u8; MOST_NODES],
-    defined: &[u8],
+    nodes: &[u8; NODES_ROOM],
     rules: usize,
 ) -> Verdict
-    requires { ⌜ (length (now certificate) % 8 ≡ 0) × (length (now certificate) ≤ 24576) × Kept-pack rules (now arities) (now starts) (now nodes) (now defined) × ((p : System) × (symbols : ℕ) × (qs : List Pair) × Stored p symbols rules (now arities) (now starts) (now nodes) (now defined) × All-pairs p qs × Pairs-at (now certificate) from qs × (length qs ≡ count)) ⌝ }
-    ensures { λ r. ⌜ ((p : System) (symbols : ℕ) (qs : List Pair) (ws ms : List Weight) → Stored p symbols rules (now (arities .entry)) (now (starts .entry)) (now (nodes .entry)) (now (defined .entry)) → All-pairs p qs → Pairs-at (now (certificate .entry)) from qs → length qs ≡ count → Table-is (now (table .entry)) ws → Marked-is (now (table .entry)) ms → any (rule-over (record { weights = ws; marked = ms })) (p .rules) ≡ false → r ≡ verdict (any (call-over (record { weights = ws; marked = ms })) (calls p qs)) (is-none (without (call-falls (record { weights = ws; marked = ms })) (calls p qs)))) ⌝ }
+    requires { ⌜ Pairs-asked (now certificate) from count rules (now arities) (now starts) (now nodes) ⌝ }
+    ensures { λ r. ⌜ ((a : Pairs-asked (now (certificate .entry)) from count rules (now (arities .entry)) (now (starts .entry)) (now (nodes .entry))) (ws ms : List Weight) → Table-is (now (table .entry)) ws → Marked-is (now (table .entry)) ms → rules-over (a .asked .kept .system) ws ms ≡ false → r ≡ calls-verdict (a .asked .kept .system) (a .pairs) ws ms) ⌝ }
 {
     let mut sums = [0u64; SUMS];
     let mut last = NO_RULE;

@@ -21,7 +21,7 @@ use Rattle.terms.specs.Kept.{code, Kept}
 use Rattle.terms.proofs.Rests.{kept-first}
 use Rattle.pack_reader.specs.Stored.{Rule-at, begins-left, Flagged}
 
--- MARKS
+-- FLAGS
 
 pub flagged-none : (ss ns : List ℕ) (n : ℕ) → 64 ≤ n → Flagged ss ns 0 (replicate n 0)
 unfolding Flagged begins-left

@@ -13,7 +13,7 @@ use Rattle.rewriting.proofs.Basics.{by-test}
 use Rattle.rewriting.proofs.Trees.{member-append}
 use Rattle.pack_reader.specs.Stored.{all-seen, Seen-in, variables-in}
 
--- MARKS
+-- SEEN
 
 pub seen-none : Seen-in [] (replicate 16 false)
 unfolding Seen-in member
@@ -41,7 +41,7 @@ module _ (cs : List ℕ) (c : ℕ) where
       let z : v ≡ c - 64 → ⊥ = λ k. eqb-false c (64 + v) e (omega arith) in
       rw (member-last (64 + v), e, or-false) (getD-set-other sn (c - 64) v true false z ∙ s v h))
 
--- EVERY VARIABLE HAS A MARK
+-- EVERY VARIABLE WAS SEEN
 
 -- one node and the others
 module _ (sn : List Bool) where

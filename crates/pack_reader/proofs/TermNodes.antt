@@ -16,7 +16,7 @@ use Rattle.records.specs.Order.{F-application, V-variable, index, may-follow}
 use Rattle.records.proofs.Table.{Kind, is-S, is-R, is-F, is-V, is-C, is-P, is-W, is-M, is-other, kind-of}
 use Rattle.terms.specs.Sides.{Node, variable, symbol}
 use Rattle.packs.specs.PackReading.{variable-count, node-zeros, node-in-range, node-of}
-use Rattle.packs.specs.TermReading.{is-node, term-nodes}
+use Rattle.packs.specs.TermReading.{node-kind, term-nodes}
 use Rattle.packs.proofs.OneRecord.{node-row}
 use Rattle.packs.proofs.Places.{Inside, at-rule, inside-kind, inside-node, inside-next}
 use Rattle.pack_reader.specs.Stored.{node-outcome, Run, more-run, node-steps}
@@ -24,8 +24,8 @@ use Rattle.pack_reader.specs.Stored.{node-outcome, Run, more-run, node-s
 -- WHAT MAY STAND inside a rule is what may stand in a term
 
 -- rows 3 and 4 are F's and V's only
-row-node : {k : ℕ} → Kind k → 3 ≤ index k → index k < 5 → is-node k ≡ true
-unfolding index is-node
+row-node : {k : ℕ} → Kind k → 3 ≤ index k → index k < 5 → node-kind k ≡ true
+unfolding index node-kind
 row-node is-S l h = absurd (omega arith)
 row-node is-R l h = absurd (omega arith)
 row-node is-F l h = refl
@@ -34,21 +34,21 @@ row-node is-C l h = absurd (omega arith)
 row-node is-P l h = absurd (omega arith)
 row-node is-W l h = absurd (omega arith)
 row-node is-M l h = absurd (omega arith)
-row-node (is-other k e) l h = absurd (omega (arith, e))
+row-node (is-other k e f) l h = absurd (omega (arith, e))
 
 row-within : (x : Node) → (3 ≤ node-row x) × (node-row x < 5)
 row-within (variable v) = (omega arith, omega arith)
 row-within (symbol f) = (omega arith, omega arith)
 
-node-is-row : (k : ℕ) → is-node k ≡ true → (x : Node) × (index k ≡ node-row x)
-unfolding index is-node
+node-is-row : (k : ℕ) → node-kind k ≡ true → (x : Node) × (index k ≡ node-row x)
+unfolding index node-kind
 node-is-row k h =
     ⊎-elim
     (λ e. (symbol 0, rw (eqb-true k F-application e)))
     (λ e. (variable 0, rw (eqb-true k V-variable e)))
     (or-cases (eqb k F-application) (eqb k V-variable) h)
 
-stands : {b : ℕ} → Inside b → (k due : ℕ) → 1 ≤ due → may-follow b (index k) due false ≡ is-node k
+stands : {b : ℕ} → Inside b → (k due : ℕ) → 1 ≤ due → may-follow b (index k) due false ≡ node-kind k
 stands {b} i k due d =
     same-test _ _
     (λ m. let n = inside-kind i (kind-of k) due d m in
@@ -78,7 +78,7 @@ module _ (p : System) where
   nodes-from i [] = refl
   nodes-from {b} i (r ∷ rs) =
       let m = stands i (r .kind) (suc (length rs)) (omega arith) in
-      by-test (is-node (r .kind))
+      by-test (node-kind (r .kind))
       (λ h.
       let next = inside-next i (kind-of (r .kind)) (suc (length rs)) (omega arith) (m ∙ h) in
       rw (m, h, ← (nodes-from next rs))

@@ -5,7 +5,7 @@ use mathlib.Core.Bool.{Bool, true, false, _&&_, _||_, cond}
 use mathlib.Core.List.{List, [], _∷_}
 use Prim.Native.Nat.{ℕ, zero, suc, _+_, _*_, _-_, _%_, _≤_, _<_}
 use lib.Dec.{ltb, leb, eqb}
-use lib.ListN.{length, getD, take, drop}
+use lib.ListN.{length, getD, take, drop, replicate}
 use Rattle.rewriting.specs.Terms.{Rule, System, rule}
 use Rattle.rewriting.specs.Pairs.{defined}
 use Rattle.rewriting.specs.Systems.{member}
@@ -18,7 +18,7 @@ use Rattle.records.specs.Records.{record-at}
 use Rattle.records.specs.Files.{Whole}
 use Rattle.records.specs.Order.{S-symbol, V-variable, index, may-follow}
 use Rattle.terms.specs.Sides.{Node, variable, symbol, flat, side}
-use Rattle.terms.specs.Kept.{code, codes, Kept, balanced}
+use Rattle.terms.specs.Kept.{code, codes, Kept, balanced, nodes-room, starts-room, symbols-room}
 use Rattle.packs.specs.PackReading.{node-zeros, node-of, side-count, most-pack-bytes, most-symbols, most-arity, most-rules, variable-count}
 use Rattle.packs.specs.Encoding.{Good-pack}
 use Rattle.pack_reader.specs.declared.sides.RightSide.{RightSide}
@@ -119,19 +119,35 @@ pub record Rule-asked (pack : List ℕ) (from left right symbols : ℕ) (arities
   pub whole : length pack % 8 ≡ 0
   pub near : from ≤ 8192
   pub symbols-few : symbols ≤ most-symbols
-  pub arities-long : length arities ≡ most-symbols
+  pub arities-long : length arities ≡ symbols-room
   pub left-some : 1 ≤ left
   pub left-few : left ≤ 32
   pub right-few : right ≤ 32
   pub room : base + 64 ≤ length nodes
   pub nodes-few : length nodes ≤ 65536
 
+-- where rule i's right side begins and ends is to be kept
+pub record Ends-asked (starts : List ℕ) (i middle end : ℕ) : Type 0 where
+  pub room : 2 * i + 2 < length starts
+  pub middle-small : middle < 65536
+  pub end-small : end < 65536
+
 -- the nodes of a side are to be judged
 pub record Side-asked (arities nodes : List ℕ) (from to : ℕ) : Type 0 where
-  pub arities-long : length arities ≡ most-symbols
+  pub arities-long : length arities ≡ symbols-room
   pub ordered : from ≤ to
   pub within : to ≤ length nodes
   pub near : to ≤ 65536
+
+-- of a left side, where no variable was seen yet
+pub record Left-asked (arities nodes : List ℕ) (from to : ℕ) (seen : List Bool) : Type 0 where
+  pub side : Side-asked arities nodes from to
+  pub none-seen : seen ≡ replicate variable-count false
+
+-- of a right side
+pub record Right-asked (arities nodes : List ℕ) (from to : ℕ) (seen : List Bool) : Type 0 where
+  pub side : Side-asked arities nodes from to
+  pub seen-long : length seen ≡ variable-count
 
 -- what `left_side` answers and leaves: whether they are exactly one term, and if so, the variables among them
 pub record Left-judged (arities nodes : List ℕ) (seen : List Bool) (one : Bool) : Type 0 where
@@ -146,7 +162,7 @@ pub record Right-judged (arities nodes : List ℕ) (seen : List Bool) (r : Right
 
 -- both sides of a rule
 pub record Sides-asked (arities nodes : List ℕ) (left right end : ℕ) : Type 0 where
-  pub arities-long : length arities ≡ most-symbols
+  pub arities-long : length arities ≡ symbols-room
   pub left-some : left < right
   pub ordered : right ≤ end
   pub within : end ≤ length nodes
@@ -155,8 +171,8 @@ pub record Sides-asked (arities nodes : List ℕ) (left right end : ℕ) : Type 
 -- the roots of the left sides are to be flagged
 pub record Flags-asked (starts nodes : List ℕ) (rules : ℕ) (flags : List ℕ) : Type 0 where
   pub rules-few : rules ≤ most-rules
-  pub starts-long : length starts ≡ 129
-  pub flags-long : length flags ≡ most-symbols
+  pub starts-long : length starts ≡ starts-room
+  pub flags-long : length flags ≡ symbols-room
   pub within : (i : ℕ) → i < rules → getD starts (2 * i) 0 < length nodes
 
 -- what `flag_defined` leaves: a flag of 1 for each byte below 64 that begins a left side
@@ -186,7 +202,7 @@ symbol-steps k i (r ∷ rs) =
 -- symbols are to be read into `arities`
 pub record Symbols-asked (pack arities : List ℕ) : Type 0 where
   pub file : Whole most-pack-bytes pack
-  pub arities-long : length arities ≡ most-symbols
+  pub arities-long : length arities ≡ symbols-room
 
 unfoldable pub Symbols-read : Outcome (List ℕ) → Answer → (arities : List ℕ) → Type 0
 Symbols-read (refused n) x z = answer-outcome x ≡ refused n
@@ -207,9 +223,9 @@ rule-header i r =
 pub record Rules-asked (pack : List ℕ) (symbols : ℕ) (arities starts nodes : List ℕ) : Type 0 where
   pub file : Whole most-pack-bytes pack
   pub symbols-few : symbols ≤ most-symbols
-  pub arities-long : length arities ≡ most-symbols
-  pub starts-long : length starts ≡ 129
-  pub nodes-long : length nodes ≡ 4096
+  pub arities-long : length arities ≡ symbols-room
+  pub starts-long : length starts ≡ starts-room
+  pub nodes-long : length nodes ≡ nodes-room
   pub no-symbol-more : 8 * symbols + 8 ≤ length pack → record-at pack (8 * symbols) .kind ≡ S-symbol → ⊥
 
 unfoldable pub Rules-read : Outcome System → (arities : List ℕ) → Answer → (starts nodes : List ℕ) → Type 0
@@ -220,10 +236,10 @@ Rules-read (passed p) ar x ss ns =
 -- THE PACK
 -- the arrays that are lent to keep it have their lengths
 pub record Room (arities starts nodes flags : List ℕ) : Type 0 where
-  pub arities-long : length arities ≡ most-symbols
-  pub starts-long : length starts ≡ 129
-  pub nodes-long : length nodes ≡ 4096
-  pub flags-long : length flags ≡ most-symbols
+  pub arities-long : length arities ≡ symbols-room
+  pub starts-long : length starts ≡ starts-room
+  pub nodes-long : length nodes ≡ nodes-room
+  pub flags-long : length flags ≡ symbols-room
 
 unfoldable pub Pack-read : Outcome System → PackRead → (arities starts nodes flags : List ℕ) → Type 0
 Pack-read (refused n) x ar ss ns ms = (y : Refusal) × (x ≡ PackRefused y) × (number-of y ≡ n)

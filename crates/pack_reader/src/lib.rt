@@ -13,8 +13,11 @@ ghost use Rattle.pack_reader.specs.Stored.{Room, Pack-read};
 // Document 01's limit on a pack's rules.
 pub const MOST_RULES: usize = 64;
 
+// Document 01's limit on the nodes of a side.
+pub const MOST_NODES: usize = 32;
+
 // Where each side's nodes start, and where the last one's end.
-pub const STARTS: usize = 2 * MOST_RULES + 1;
+pub const STARTS_ROOM: usize = 2 * MOST_RULES + 1;
 
 // How many symbols and rules a pack has.
 pub struct Counts {

@@ -12,10 +12,10 @@ ghost use lib.ListN.{length, drop, take, set, replicate};
 ghost use Rattle.records.specs.Answers.{answer-outcome};
 ghost use Rattle.records.specs.Records.{all-records};
 ghost use Rattle.packs.specs.PackReading.{pack-from, between-rules};
-ghost use Rattle.pack_reader.specs.Stored.{rule-header, node-steps, Rule-asked, Rule-read, Rules-asked, Rules-read, row-after, Flags-asked, Flagged};
+ghost use Rattle.pack_reader.specs.Stored.{rule-header, node-steps, Rule-asked, Rule-read, Ends-asked, Rules-asked, Rules-read, row-after, Flags-asked, Flagged};
 
-// Document 01's limit on the nodes of a side.
-const MOST_SIDE_NODES: u16 = 32;
+// As wide as the fields that hold such a count.
+const MOST_NODES: u16 = crate::MOST_NODES as u16;
 
 // R's fields: 2, then 3.
 fn header(r: Record, i: usize) -> Answer
@@ -33,13 +33,13 @@ fn header(r: Record, i: usize) -> Answer
     if r.b < 1 {
         return Answer::Refused(Refusal::OutOfRange);
     }
-    if MOST_SIDE_NODES < r.b {
+    if MOST_NODES < r.b {
         return Answer::Refused(Refusal::OutOfRange);
     }
     if r.c < 1 {
         return Answer::Refused(Refusal::OutOfRange);
     }
-    if MOST_SIDE_NODES < r.c {
+    if MOST_NODES < r.c {
         return Answer::Refused(Refusal::OutOfRange);
     }
     Answer::Passed(0)
@@ -76,7 +76,7 @@ fn read_rule(
 
 // Keeps where rule i's right side begins and where it ends.
 fn keep_ends(starts: &mut [u16], i: usize, middle: usize, end: usize)
-    requires { ⌜ (2 * i + 2 < length (now starts)) × (middle < 65536) × (end < 65536) ⌝ }
+    requires { ⌜ Ends-asked (now starts) i middle end ⌝ }
     ensures { λ _. ⌜ now (starts .exit) ≡ set (set (now (starts .entry)) (2 * i + 1) middle) (2 * i + 2) end ⌝ }
 {
     starts[2 * i + 1] = middle as u16;
@@ -113,20 +113,19 @@ pub fn read_rules(
             Answer::Refused(x) => {
                 return Answer::Refused(x);
             }
-            Answer::Passed(_) => {
-                match read_rule(pack, at + 1, b, c, symbols, arities, nodes, base) {
-                    Answer::Refused(x) => {
-                        return Answer::Refused(x);
-                    }
-                    Answer::Passed(row) => {
-                        let end = base + b + c;
-                        keep_ends(starts, i, base + b, end);
-                        at = at + 1 + b + c;
-                        base = end;
-                        i = i + 1;
-                        last = row;
-                    }
-                }
+            Answer::Passed(_) => {}
+        }
+        match read_rule(pack, at + 1, b, c, symbols, arities, nodes, base) {
+            Answer::Refused(x) => {
+                return Answer::Refused(x);
+            }
+            Answer::Passed(row) => {
+                let end = base + b + c;
+                keep_ends(starts, i, base + b, end);
+                at = at + 1 + b + c;
+                base = end;
+                i = i + 1;
+                last = row;
             }
         }
     }

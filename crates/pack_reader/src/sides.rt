@@ -5,12 +5,9 @@ use terms::FIRST_VARIABLE;
 use terms::MOST_SYMBOLS;
 use terms::MOST_VARIABLES;
 ghost use mathlib.Core.Path.{_≡_};
-ghost use mathlib.Core.Bool.{false};
-ghost use lib.ListN.{length, replicate};
 ghost use Rattle.records.specs.Answers.{answer-outcome};
 ghost use Rattle.terms.specs.Kept.{part};
-ghost use Rattle.packs.specs.PackReading.{variable-count};
-ghost use Rattle.pack_reader.specs.Stored.{rule-judged, Side-asked, Left-judged, Right-judged, Sides-asked};
+ghost use Rattle.pack_reader.specs.Stored.{rule-judged, Left-asked, Left-judged, Right-asked, Right-judged, Sides-asked};
 
 // The byte after those of the variables.
 const PAST_VARIABLES: usize = MOST_SYMBOLS + MOST_VARIABLES;
@@ -23,7 +20,7 @@ pub struct RightSide {
 
 // Notes the variables of a left side, and says whether its nodes are exactly one term: one pass for both.
 fn left_side(arities: &[u8], nodes: &[u8], from: usize, to: usize, seen: &mut [bool]) -> bool
-    requires { ⌜ Side-asked (now arities) (now nodes) from to × (now seen ≡ replicate variable-count false) ⌝ }
+    requires { ⌜ Left-asked (now arities) (now nodes) from to (now seen) ⌝ }
     ensures { λ r. ⌜ Left-judged (now (arities .entry)) (part (now (nodes .entry)) from to) (now (seen .exit)) r ⌝ }
 {
     let mut wanted = 1;
@@ -46,7 +43,7 @@ fn left_side(arities: &[u8], nodes: &[u8], from: usize, to: usize, seen: &mut [b
 
 // Compares a right side with the variables of the left: one pass for both answers.
 fn right_side(arities: &[u8], nodes: &[u8], from: usize, to: usize, seen: &[bool]) -> RightSide
-    requires { ⌜ Side-asked (now arities) (now nodes) from to × (length (now seen) ≡ variable-count) ⌝ }
+    requires { ⌜ Right-asked (now arities) (now nodes) from to (now seen) ⌝ }
     ensures { λ r. ⌜ Right-judged (now (arities .entry)) (part (now (nodes .entry)) from to) (now (seen .entry)) r ⌝ }
 {
     let mut wanted = 1;

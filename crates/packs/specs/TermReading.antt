@@ -15,13 +15,15 @@ use Rattle.packs.specs.PackReading.{node-zeros, node-in-range, node-of}
 abbrev pub most-term-bytes : ℕ
 most-term-bytes = 4096
 
-unfoldable pub is-node : (kind : ℕ) → Bool
-is-node k = eqb k F-application || eqb k V-variable
+-- the kinds of which a term is made
+unfoldable pub node-kind : (kind : ℕ) → Bool
+node-kind k = eqb k F-application || eqb k V-variable
 
+-- its nodes: 2, then 3, record by record
 unfoldable pub term-nodes : System → (variables : ℕ) → List Record → Outcome (List Node)
 term-nodes p vs [] = passed []
 term-nodes p vs (r ∷ rs) =
-    unless (is-node (r .kind) && node-zeros r) 2
+    unless (node-kind (r .kind) && node-zeros r) 2
     (unless (node-in-range (p .arities) vs r) 3 (after (term-nodes p vs rs) (λ ns. passed (node-of r ∷ ns))))
 
 unfoldable pub term-of : Option Tree → Outcome Tree

@@ -80,37 +80,37 @@ module _ (p : System) (ns os : List ℕ) (a b : ℕ) where
 
 module _ (ar ss ns ms : List ℕ) (right other : ℕ) (a : Arc-asked ar ss ns ms right other) where
   pub other-small : other < 64
-  other-small = omega (arith, a .other-rule, a .stored .rules-are, a .stored .good .rule-count)
+  other-small = omega (arith, a .other-rule, a .kept .stored .rules-are, a .kept .stored .good .rule-count)
 
-  arities-kept : take (length (a .system .arities)) ar ≡ a .system .arities
-  arities-kept = rw (a .stored .symbols-are) at (a .stored .arities-are)
+  arities-kept : take (length (a .kept .system .arities)) ar ≡ a .kept .system .arities
+  arities-kept = rw (a .kept .stored .symbols-are) at (a .kept .stored .arities-are)
 
-  right-kept : Applied-at (a .system) ns right (pair-right (a .system) (a .pair))
+  right-kept : Applied-at (a .kept .system) ns right (pair-right (a .kept .system) (a .pair))
   right-kept =
-      let p = a .system in
+      let p = a .kept .system in
       let q = a .pair in
       let r = pair-rule p q (a .is) in
-      let k = subterm-at _ _ _ _ _ _ _ (a .stored) (q .at-rule) (q .place) (omega (arith, a .stored .rules-are)) (pair-place p q (a .is)) in
+      let k = subterm-at _ _ _ _ _ _ _ (a .kept .stored) (q .at-rule) (q .place) (omega (arith, a .kept .stored .rules-are)) (pair-place p q (a .is)) in
       record {
         is = defined-applied p _ (pair-defined p q (a .is));
-        term = pair-right-term p q (a .is) (a .stored .good .good);
+        term = pair-right-term p q (a .is) (a .kept .stored .good .good);
         kept = rw (a .at-right) k;
       }
 
-  left-kept : Applied-at (a .system) ns (getD ss (2 * other) 0) (pair-left (a .system) (a-pair other 0))
+  left-kept : Applied-at (a .kept .system) ns (getD ss (2 * other) 0) (pair-left (a .kept .system) (a-pair other 0))
   unfolding pair-left
   left-kept =
-      let l = stored-rule _ _ _ _ _ _ _ (a .stored) (a .other-rule) in
-      record { is = is-applied _ (l .left-applied); term = l .left-term; kept = a .stored .rules-at other (a .other-rule) .left-kept }
+      let l = stored-rule _ _ _ _ _ _ _ (a .kept .stored) (a .other-rule) in
+      record { is = is-applied _ (l .left-applied); term = l .left-term; kept = a .kept .stored .rules-at other (a .other-rule) .left-kept }
 
   -- terms stand there
   pub right-at : Term-at ar ns right
   right-at =
       record {
-        system = a .system;
-        term = pair-right (a .system) (a .pair);
+        system = a .kept .system;
+        term = pair-right (a .kept .system) (a .pair);
         arities-are = arities-kept;
-        arities-few = a .stored .good .symbols;
+        arities-few = a .kept .stored .good .symbols;
         is = right-kept .term;
         kept = right-kept .kept;
       }
@@ -118,19 +118,19 @@ module _ (ar ss ns ms : List ℕ) (right other : ℕ) (a : Arc-asked ar ss ns ms
   pub left-at : Term-at ar ns (getD ss (2 * other) 0)
   left-at =
       record {
-        system = a .system;
-        term = pair-left (a .system) (a-pair other 0);
+        system = a .kept .system;
+        term = pair-left (a .kept .system) (a-pair other 0);
         arities-are = arities-kept;
-        arities-few = a .stored .good .symbols;
+        arities-few = a .kept .stored .good .symbols;
         is = left-kept .term;
         kept = left-kept .kept;
       }
 
-  roots-asked : same-root (pair-right (a .system) (a .pair)) (pair-left (a .system) (a-pair other 0)) ≡ eqb (getD ns (getD ss (2 * other) 0) 0) (getD ns right 0)
-  roots-asked = roots-by-bytes (a .system) ns ns right (getD ss (2 * other) 0) (right-kept .is) (left-kept .is) (right-kept .kept) (left-kept .kept)
+  roots-asked : same-root (pair-right (a .kept .system) (a .pair)) (pair-left (a .kept .system) (a-pair other 0)) ≡ eqb (getD ns (getD ss (2 * other) 0) 0) (getD ns right 0)
+  roots-asked = roots-by-bytes (a .kept .system) ns ns right (getD ss (2 * other) 0) (right-kept .is) (left-kept .is) (right-kept .kept) (left-kept .kept)
 
   -- unlike first bytes are unlike roots
-  pub no-arc : (getD ns right 0 ≡ getD ns (getD ss (2 * other) 0) 0 → ⊥) → arc (a .system) (a .pair) (a-pair other 0) ≡ false
+  pub no-arc : (getD ns right 0 ≡ getD ns (getD ss (2 * other) 0) 0 → ⊥) → arc (a .kept .system) (a .pair) (a-pair other 0) ≡ false
   unfolding arc
   no-arc d = rw (roots-asked, ne-eqb (getD ns (getD ss (2 * other) 0) 0) (getD ns right 0) (λ e. d (sym e)))
 
@@ -140,16 +140,20 @@ module _ (ar ss ns ms : List ℕ) (right other : ℕ) (a : Arc-asked ar ss ns ms
     unfolding right-at
     to-walk =
         record {
-          system = a .system;
-          first = arguments (pair-right (a .system) (a .pair));
-          other = arguments (pair-left (a .system) (a-pair other 0));
+          arities-long = a .kept .arrays .arities-long;
+          flags-long = a .kept .arrays .flags-long;
+          nodes-few = omega (arith, a .kept .arrays .nodes-long);
+          others-few = omega (arith, a .kept .arrays .nodes-long);
+          system = a .kept .system;
+          first = arguments (pair-right (a .kept .system) (a .pair));
+          other = arguments (pair-left (a .kept .system) (a-pair other 0));
           lists =
               rw (ends right-at)
-              (arguments-kept (a .system) ns ns right (getD ss (2 * other) 0) ar ms arities-kept (a .stored .good .symbols) (a .stored .flags-are) e
+              (arguments-kept (a .kept .system) ns ns right (getD ss (2 * other) 0) ar ms arities-kept (a .kept .stored .good .symbols) (a .kept .stored .flags-are) e
               (right-kept .is) (left-kept .is) (right-kept .term) (left-kept .term) (right-kept .kept) (left-kept .kept));
         }
 
     pub arc-walked : (r : Bool) → ((w : Walkable ar ms ns ns (right + 1) end (getD ss (2 * other) 0 + 1)) → r ≡ may-reach (w .system) (w .first) (w .other)) →
-        r ≡ arc (a .system) (a .pair) (a-pair other 0)
+        r ≡ arc (a .kept .system) (a .pair) (a-pair other 0)
     unfolding arc to-walk
     arc-walked r h = rw (roots-asked, eq-eqb (getD ns (getD ss (2 * other) 0) 0) (getD ns right 0) (sym e)) (h to-walk)

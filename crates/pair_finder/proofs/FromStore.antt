@@ -21,7 +21,7 @@ use Rattle.terms.proofs.Parsing.{length-flat}
 use Rattle.pack_reader.specs.Stored.{Stored}
 use Rattle.pairs.specs.Listing.{a-pair, pairs-from, pairs-of, pairs}
 use Rattle.pairs.specs.Arcs.{arc}
-use Rattle.pair_finder.specs.Walking.{is-defined, rule-pairs, first-pairs, Laid, Arc-asked}
+use Rattle.pair_finder.specs.Walking.{is-defined, rule-pairs, first-pairs, Laid, Kept-pack, Arc-asked}
 use Rattle.pair_finder.proofs.Kept.{kept-part}
 use Rattle.pair_finder.proofs.Subterms.{Stand, subterms-stand, subterm-kept, kept-defined, places-pairs}
 
@@ -114,11 +114,18 @@ module _ (p : System) (symbols rules : ℕ) (ar ss ns ms : List ℕ) (s : Stored
       (λ h. rw (← (s .rules-are), h))
 
   -- of a pair and a rule an arc may be asked
-  abbrev pub stored-arc : (q : Pair) (other : ℕ) → is-pair p q ≡ true → other < rules → Arc-asked ar ss ns ms (begins (q .at-rule) + q .place) other
-  stored-arc q other is h =
-      record { system = p; symbols = symbols; rules = rules; stored = s; pair = q; is = is; at-right = refl; other-rule = h }
+  abbrev pub stored-arc : Kept-pack rules ar ss ns ms → (q : Pair) (other : ℕ) → is-pair p q ≡ true → other < rules → Arc-asked ar ss ns ms (begins (q .at-rule) + q .place) other
+  stored-arc arrays q other is h =
+      record {
+        rules = rules;
+        kept = record { arrays = arrays; system = p; symbols = symbols; stored = s };
+        pair = q;
+        is = is;
+        at-right = refl;
+        other-rule = h;
+      }
 
   -- and what is answered to it is the arc to each pair of that rule
-  pub stored-arc-answer : (q r : Pair) → is-pair p q ≡ true → r .at-rule < rules →
-      (b : Bool) → ((a : Arc-asked ar ss ns ms (begins (q .at-rule) + q .place) (r .at-rule)) → b ≡ arc (a .system) (a .pair) (a-pair (r .at-rule) 0)) → b ≡ arc p q r
-  stored-arc-answer q r is h b answer = answer (stored-arc q (r .at-rule) is h) ∙ sym (arc-any-place p q (r .at-rule) (r .place))
+  pub stored-arc-answer : Kept-pack rules ar ss ns ms → (q r : Pair) → is-pair p q ≡ true → r .at-rule < rules →
+      (b : Bool) → ((a : Arc-asked ar ss ns ms (begins (q .at-rule) + q .place) (r .at-rule)) → b ≡ arc (a .kept .system) (a .pair) (a-pair (r .at-rule) 0)) → b ≡ arc p q r
+  stored-arc-answer arrays q r is h b answer = answer (stored-arc arrays q (r .at-rule) is h) ∙ sym (arc-any-place p q (r .at-rule) (r .place))

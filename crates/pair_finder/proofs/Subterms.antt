@@ -48,7 +48,7 @@ subterm-kept p nodes a (suc k) (one-stands x ns rest t ts is e s) h l =
     let f : a + suc k ≡ a + 1 + k = omega arith in
     rw f (subterm-kept p nodes (a + 1) k s (kept-others nodes a x ns h) (le-of-suc-le-suc l))
 
--- MARKS
+-- FLAGS
 
 module _ (p : System) (ms : List ℕ) (are : (f : ℕ) → f < 64 → getD ms f 0 ≡ cond (defined p f) 1 0) (few : length (p .arities) ≤ 64) where
   variable-undefined : (v : ℕ) → is-defined ms (64 + v) ≡ false

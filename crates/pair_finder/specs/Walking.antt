@@ -12,7 +12,7 @@ use Rattle.records.specs.declared.Answer.{Answer}
 use Rattle.records.specs.Outcomes.{Outcome, refused, passed}
 use Rattle.records.specs.Answers.{answer-outcome}
 use Rattle.terms.specs.Sides.{flat}
-use Rattle.terms.specs.Kept.{Kept, part}
+use Rattle.terms.specs.Kept.{Kept, part, nodes-room, starts-room, symbols-room, Term-at}
 use Rattle.pack_reader.specs.Stored.{Stored}
 use Rattle.pairs.specs.Listing.{a-pair, pairs, pairs-of, pair-bytes}
 use Rattle.pairs.specs.Arcs.{may-reach, arc}
@@ -38,7 +38,7 @@ first-pairs ss ns ms (suc n) = first-pairs ss ns ms n ++ rule-pairs ss ns ms n
 -- each rule's right side lies in order within the nodes, with at most 32 of them
 pub record Laid (starts nodes : List ℕ) (rules : ℕ) : Type 0 where
   pub few : rules ≤ 64
-  pub starts-long : length starts ≡ 129
+  pub starts-long : length starts ≡ starts-room
   pub rises : (i : ℕ) → i < rules → getD starts (2 * i + 1) 0 ≤ getD starts (2 * i + 2) 0
   pub short : (i : ℕ) → i < rules → getD starts (2 * i + 2) 0 ≤ getD starts (2 * i + 1) 0 + 32
   pub within : (i : ℕ) → i < rules → getD starts (2 * i + 2) 0 ≤ length nodes
@@ -59,6 +59,10 @@ pub record Two-lists (p : System) (arities flags nodes others : List ℕ) (u end
 
 -- some two lists are kept there
 pub record Walkable (arities flags nodes others : List ℕ) (u end v : ℕ) : Type 0 where
+  pub arities-long : length arities ≡ symbols-room
+  pub flags-long : length flags ≡ symbols-room
+  pub nodes-few : length nodes ≤ 65536
+  pub others-few : length others ≤ 65536
   pub system : System
   pub first : Tree
   pub other : Tree
@@ -72,16 +76,33 @@ jumps ms c d = leb 64 d || (leb 64 c || is-defined ms c)
 unfoldable pub enters : (flags : List ℕ) → (c d : ℕ) → Bool
 enters ms c d = eqb c d && not (jumps ms c d)
 
--- a pair's right side is kept at `right`, and `other` is a rule
-pub record Arc-asked (arities starts nodes flags : List ℕ) (right other : ℕ) : Type 0 where
+-- the arrays in which a pack is kept have their lengths, and its sides lie in them
+pub record Kept-pack (rules : ℕ) (arities starts nodes flags : List ℕ) : Type 0 where
+  pub laid : Laid starts nodes rules
+  pub arities-long : length arities ≡ symbols-room
+  pub flags-long : length flags ≡ symbols-room
+  pub nodes-long : length nodes ≤ nodes-room
+
+-- a system is kept in them
+pub record System-kept (rules : ℕ) (arities starts nodes flags : List ℕ) : Type 0 where
+  pub arrays : Kept-pack rules arities starts nodes flags
   pub system : System
   pub symbols : ℕ
-  pub rules : ℕ
   pub stored : Stored system symbols rules arities starts nodes flags
+
+-- a pair's right side is kept at `right`, and `other` is a rule
+pub record Arc-asked (arities starts nodes flags : List ℕ) (right other : ℕ) : Type 0 where
+  pub rules : ℕ
+  pub kept : System-kept rules arities starts nodes flags
   pub pair : Pair
-  pub is : is-pair system pair ≡ true
+  pub is : is-pair (kept .system) pair ≡ true
   pub at-right : right ≡ getD starts (2 * pair .at-rule + 1) 0 + pair .place
   pub other-rule : other < rules
+
+-- the same where it is known that this side ends at `end`
+pub record Arc-to-asked (arities starts nodes flags : List ℕ) (right end other : ℕ) : Type 0 where
+  pub asked : Arc-asked arities starts nodes flags right other
+  pub ends : (s : Term-at arities nodes right) → end ≡ right + length (flat (s .term))
 
 -- what `place_of` answers: the place among the nodes of a pair's right side, or 7
 unfoldable pub Place-answer : System → (starts : List ℕ) → (at-rule place : ℕ) → Answer → Type 0
@@ -92,24 +113,3 @@ Place-answer p ss i k x =
 pub record Written (at : ℕ) (qs : List Pair) (r : ℕ) (before now : List ℕ) : Type 0 where
   pub ends : r ≡ at + 8 * length qs
   pub list-is : now ≡ take at before ++ (pair-bytes qs ++ drop (at + 8 * length qs) before)
-
--- the arrays in which a pack is kept have their lengths, and its sides lie in them
-pub record Kept-pack (rules : ℕ) (arities starts nodes flags : List ℕ) : Type 0 where
-  pub laid : Laid starts nodes rules
-  pub arities-long : length arities ≡ 64
-  pub flags-long : length flags ≡ 64
-  pub nodes-long : length nodes ≤ 4096
-
--- a system is kept in them
-pub record System-kept (rules : ℕ) (arities starts nodes flags : List ℕ) : Type 0 where
-  pub arrays : Kept-pack rules arities starts nodes flags
-  pub system : System
-  pub symbols : ℕ
-  pub stored : Stored system symbols rules arities starts nodes flags
-
--- a pair of the system kept there, its right side at `right`
-pub record Pair-kept (p : System) (q : Pair) (rules : ℕ) (arities starts nodes flags : List ℕ) (right : ℕ) : Type 0 where
-  pub symbols : ℕ
-  pub stored : Stored p symbols rules arities starts nodes flags
-  pub is : is-pair p q ≡ true
-  pub at-right : right ≡ getD starts (2 * q .at-rule + 1) 0 + q .place

@@ -8,15 +8,15 @@ ghost use Prim.Native.Nat.{ℕ, _+_, _≤_};
 ghost use lib.ListN.{length};
 ghost use Rattle.rewriting.specs.Terms.{System};
 ghost use Rattle.terms.specs.Sides.{flat};
-ghost use Rattle.terms.specs.Kept.{Term-at};
+ghost use Rattle.terms.specs.Kept.{Term-at, starts-room, symbols-room};
 ghost use Rattle.pack_reader.specs.Stored.{Stored};
 ghost use Rattle.pairs.specs.Listing.{a-pair};
 ghost use Rattle.pairs.specs.Arcs.{may-reach, arc};
-ghost use Rattle.pair_finder.specs.Walking.{jumps, enters, Walkable, Laid, Arc-asked, Place-answer};
+ghost use Rattle.pair_finder.specs.Walking.{jumps, enters, Walkable, Laid, Arc-asked, Arc-to-asked, Place-answer};
 
 // The walk skips a term on either side.
 fn jumps(defined: &[u8], c: u8, d: u8) -> bool
-    requires { ⌜ length (now defined) ≡ 64 ⌝ }
+    requires { ⌜ length (now defined) ≡ symbols-room ⌝ }
     ensures { λ r. ⌜ r ≡ jumps (now (defined .entry)) c d ⌝ }
 {
     if FIRST_VARIABLE <= d {
@@ -30,7 +30,7 @@ fn jumps(defined: &[u8], c: u8, d: u8) -> bool
 
 // The walk goes one node on on both sides: the same constructor stands there.
 fn enters(defined: &[u8], c: u8, d: u8) -> bool
-    requires { ⌜ length (now defined) ≡ 64 ⌝ }
+    requires { ⌜ length (now defined) ≡ symbols-room ⌝ }
     ensures { λ r. ⌜ r ≡ enters (now (defined .entry)) c d ⌝ }
 {
     if c != d {
@@ -41,7 +41,7 @@ fn enters(defined: &[u8], c: u8, d: u8) -> bool
 
 // Each argument of the one list, kept from u to `end`, may reach the argument of the other, kept from v on.
 fn may_reach(arities: &[u8], defined: &[u8], nodes: &[u8], u: usize, end: usize, v: usize) -> bool
-    requires { ⌜ (length (now arities) ≡ 64) × (length (now defined) ≡ 64) × (length (now nodes) ≤ 65536) × Walkable (now arities) (now defined) (now nodes) (now nodes) u end v ⌝ }
+    requires { ⌜ Walkable (now arities) (now defined) (now nodes) (now nodes) u end v ⌝ }
     ensures { λ r. ⌜ ((w : Walkable (now (arities .entry)) (now (defined .entry)) (now (nodes .entry)) (now (nodes .entry)) u end v) → r ≡ may-reach (w .system) (w .first) (w .other)) ⌝ }
 {
     let mut i = u;
@@ -73,8 +73,8 @@ pub fn arc_to(
     end: usize,
     other: usize,
 ) -> bool
-    requires { ⌜ (length (now arities) ≡ 64) × (length (now starts) ≡ 129) × (length (now defined) ≡ 64) × (length (now nodes) ≤ 65536) × ((s : Term-at (now arities) (now nodes) right) → end ≡ right + length (flat (s .term))) × Arc-asked (now arities) (now starts) (now nodes) (now defined) right other ⌝ }
-    ensures { λ r. ⌜ ((a : Arc-asked (now (arities .entry)) (now (starts .entry)) (now (nodes .entry)) (now (defined .entry)) right other) → r ≡ arc (a .system) (a .pair) (a-pair other 0)) ⌝ }
+    requires { ⌜ Arc-to-asked (now arities) (now starts) (now nodes) (now defined) right end other ⌝ }
+    ensures { λ r. ⌜ ((a : Arc-asked (now (arities .entry)) (now (starts .entry)) (now (nodes .entry)) (now (defined .entry)) right other) → r ≡ arc (a .kept .system) (a .pair) (a-pair other 0)) ⌝ }
 {
     let left = starts[2 * other] as usize;
     if nodes[right] != nodes[left] {
@@ -92,8 +92,8 @@ pub fn arc_from(
     right: usize,
     other: usize,
 ) -> bool
-    requires { ⌜ (length (now arities) ≡ 64) × (length (now starts) ≡ 129) × (length (now defined) ≡ 64) × (length (now nodes) ≤ 65536) × Arc-asked (now arities) (now starts) (now nodes) (now defined) right other ⌝ }
-    ensures { λ r. ⌜ ((a : Arc-asked (now (arities .entry)) (now (starts .entry)) (now (nodes .entry)) (now (defined .entry)) right other) → r ≡ arc (a .system) (a .pair) (a-pair other 0)) ⌝ }
+    requires { ⌜ Arc-asked (now arities) (now starts) (now nodes) (now defined) right other ⌝ }
+    ensures { λ r. ⌜ ((a : Arc-asked (now (arities .entry)) (now (starts .entry)) (now (nodes .entry)) (now (defined .entry)) right other) → r ≡ arc (a .kept .system) (a .pair) (a-pair other 0)) ⌝ }
 {
     let end = terms::skip(arities, nodes, right);
     arc_to(arities, starts, nodes, defined, right, end, other)
@@ -108,7 +108,7 @@ pub fn place_of(
     rule: usize,
     place: usize,
 ) -> Answer
-    requires { ⌜ Laid (now starts) (now nodes) rules × (length (now defined) ≡ 64) ⌝ }
+    requires { ⌜ Laid (now starts) (now nodes) rules × (length (now defined) ≡ symbols-room) ⌝ }
     ensures { λ r. ⌜ ((p : System) (symbols : ℕ) (arities : List ℕ) → Stored p symbols rules arities (now (starts .entry)) (now (nodes .entry)) (now (defined .entry)) → Place-answer p (now (starts .entry)) rule place r) ⌝ }
 {
     if rules <= rule {

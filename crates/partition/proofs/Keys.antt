@@ -94,54 +94,51 @@ module _ {rules right : ℕ} {ar ss ns ms ks rs : List ℕ} (a : Back-asked rule
   -- an arc to a rule may be asked of it
   abbrev pub asked-of : (s : ℕ) → s < rules → Arc-asked ar ss ns ms right s
   asked-of s h =
-      let k = a .pair-kept in
-      record { system = a .system; symbols = k .symbols; rules = rules; stored = k .stored; pair = a .pair; is = k .is; at-right = k .at-right; other-rule = h }
+      record { rules = rules; kept = a .kept; pair = a .pair; is = a .is; at-right = a .at-right; other-rule = h }
 
   -- its own rule is one, so its right side is a term
   pub right-term : Term-at ar ns right
   right-term =
-      let k = a .pair-kept in
-      let own : a .pair .at-rule < rules = omega (arith, pair-rule (a .system) (a .pair) (k .is), k .stored .rules-are) in
+      let own : a .pair .at-rule < rules = omega (arith, pair-rule (a .kept .system) (a .pair) (a .is), a .kept .stored .rules-are) in
       right-at _ _ _ _ _ _ (asked-of (a .pair .at-rule) own)
 
   -- that has a symbol as its root
   pub root-small : getD ns right 0 < 64
   root-small =
-      let k = a .pair-kept in
       let q = a .pair in
       let i = q .at-rule in
-      let h = sym (stored-place _ _ _ _ _ _ _ (k .stored) i (q .place)) ∙ k .is in
+      let h = sym (stored-place _ _ _ _ _ _ _ (a .kept .stored) i (q .place)) ∙ a .is in
       let ends = getD ss (2 * i + 2) 0 - getD ss (2 * i + 1) 0 in
-      rw (k .at-right) (defined-small ms _ (and-right (ltb (q .place) ends) _ (and-right (ltb i rules) _ h)))
+      rw (a .at-right) (defined-small ms _ (and-right (ltb (q .place) ends) _ (and-right (ltb i rules) _ h)))
 
   module _ (own : ℕ) where
     -- an arc leads back to one of the first n rules
     abbrev back : (n : ℕ) → Bool
-    back n = back-to (a .system) (a .lows) own (a .pair) n
+    back n = back-to (a .kept .system) (a .lows) own (a .pair) n
 
     -- an arc leads back to rule s
     abbrev back-there : (s : ℕ) → Bool
-    back-there s = ltb (getD (a .lows) s 0) own && arc (a .system) (a .pair) (a-pair s 0)
+    back-there s = ltb (getD (a .lows) s 0) own && arc (a .kept .system) (a .pair) (a-pair s 0)
 
     pub none-more : (s : ℕ) → back s ≡ false → back-there s ≡ false → back (s + 1) ≡ false
     unfolding back-to
     none-more s h k = rw (add-one s, h, k)
 
     -- none does where no arc leads
-    pub no-arc-there : (s : ℕ) → arc (a .system) (a .pair) (a-pair s 0) ≡ false → back-there s ≡ false
+    pub no-arc-there : (s : ℕ) → arc (a .kept .system) (a .pair) (a-pair s 0) ≡ false → back-there s ≡ false
     no-arc-there s h = ap (λ (b : Bool). ltb (getD (a .lows) s 0) own && b) h ∙ and-false (ltb (getD (a .lows) s 0) own)
 
     -- nor to a rule with another root
     not-back : (s : ℕ) → s < rules → (root ss ns s ≡ getD ns right 0 → own ≤ getD (a .lows) s 0) → back-there s ≡ false
     not-back s h low =
         by-test (eqb (root ss ns s) (getD ns right 0))
-        (λ e. ap (λ (b : Bool). b && arc (a .system) (a .pair) (a-pair s 0)) (le-ltb _ _ (low (eqb-true _ _ e))))
+        (λ e. ap (λ (b : Bool). b && arc (a .kept .system) (a .pair) (a-pair s 0)) (le-ltb _ _ (low (eqb-true _ _ e))))
         (λ e. no-arc-there s (no-arc _ _ _ _ _ _ (asked-of s h) (λ z. eqb-false _ _ e (sym z))))
 
     -- none leads back where no rule with its root has a lower component
     pub none-lower : own ≤ getD rs (getD ns right 0) 0 → back rules ≡ false
     none-lower h =
-        no-back-to (a .system) (a .lows) own (a .pair) rules
+        no-back-to (a .kept .system) (a .lows) own (a .pair) rules
         (λ s l. not-back s l
         (λ e. let g : getD rs (getD ns right 0) 0 ≤ getD (a .lows) s 0 = rw e at (a .keyed .roots-are .low s l (rw e root-small)) in omega arith))
 
@@ -150,9 +147,9 @@ module _ {rules right : ℕ} {ar ss ns ms ks rs : List ℕ} (a : Back-asked rule
       abbrev keys : Keys rules ss ns (a .lows) ks
       keys = a .keyed .keys-are
 
-      pub arc-back : own < 65536 → r < own → arc (a .system) (a .pair) (a-pair s 0) ≡ true → back rules ≡ true
+      pub arc-back : own < 65536 → r < own → arc (a .kept .system) (a .pair) (a-pair s 0) ≡ true → back rules ≡ true
       arc-back o l k =
-          back-to-some (a .system) (a .lows) own (a .pair) s rules h
+          back-to-some (a .kept .system) (a .lows) own (a .pair) s rules h
           (lt-ltb _ _ (below r (getD ns right 0) own _ _ (wraps ∙ keys .key s h) (omega (arith, root-small)) (keys .small s h) o l)) k
 
       pub no-lower : r < 4294967296 → own ≤ r → back-there s ≡ false
@@ -162,15 +159,7 @@ module _ {rules right : ℕ} {ar ss ns ms ks rs : List ℕ} (a : Back-asked rule
 
 module _ {e : Entry} {rules : ℕ} {ar ss ns ms ks rs : List ℕ} (a : Back-asked-of e rules ar ss ns ms ks rs) where
   abbrev pub of-entry : Back-asked rules ar ss ns ms ks rs (getD ss (2 * e .rule + 1) 0 + e .place)
-  of-entry =
-      record {
-        arrays = a .kept .arrays;
-        lows = a .lows;
-        keyed = a .keyed;
-        system = a .kept .system;
-        pair = named e;
-        pair-kept = record { symbols = a .kept .symbols; stored = a .kept .stored; is = a .is; at-right = refl };
-      }
+  of-entry = record { kept = a .kept; lows = a .lows; keyed = a .keyed; pair = named e; is = a .is; at-right = refl }
 
   pub entry-rule : e .rule < rules
   entry-rule = omega (arith, pair-rule (a .kept .system) (named e) (a .is), a .kept .stored .rules-are)

@@ -46,7 +46,7 @@ doubled-more (r ∷ qs) q =
     rw (count-more r q qs, doubled-more qs q, count-some (same-pair q r) (count-pair q qs), same-pair-sym q r)
     (swapped (ltb 0 (count-pair r qs)) (same-pair r q) (doubled qs) (ltb 0 (count-pair q qs)))
 
--- THE MARKS know the pairs seen
+-- THE SLOTS know the pairs seen
 
 -- the slot is taken
 abbrev pub taken : (ms : List ℕ) → (at : ℕ) → Bool

@@ -6,6 +6,7 @@ use mathlib.Core.List.{List, [], _∷_}
 use Prim.Native.Nat.{ℕ, zero, suc, _+_, _*_, _≤_, _<_, min}
 use lib.Dec.{ltb, eqb}
 use lib.ListN.{length, getD, set}
+use Rattle.terms.specs.Kept.{starts-room, symbols-room}
 use Rattle.rewriting.specs.Terms.{System}
 use Rattle.rewriting.specs.Pairs.{Pair, is-pair}
 use Rattle.records.specs.declared.Answer.{Answer}
@@ -15,7 +16,7 @@ use Rattle.records.specs.Records.{all-records}
 use Rattle.records.specs.Order.{components-start}
 use Rattle.records.specs.Files.{Whole}
 use Rattle.packs.specs.PackReading.{most-rules}
-use Rattle.pair_finder.specs.Walking.{Kept-pack, System-kept, Pair-kept}
+use Rattle.pair_finder.specs.Walking.{System-kept}
 use Rattle.pairs.specs.Listing.{a-pair, pairs, count-pair}
 use Rattle.pairs.specs.Arcs.{arc}
 use Rattle.certificates.specs.Components.{Component}
@@ -75,19 +76,19 @@ root ss ns s = getD ns (getD ss (2 * s) 0) 0
 
 -- each rule's left side begins within the nodes
 pub record Begun (rules : ℕ) (starts nodes : List ℕ) : Type 0 where
-  pub few : rules ≤ 64
-  pub starts-long : length starts ≡ 129
+  pub few : rules ≤ most-rules
+  pub starts-long : length starts ≡ starts-room
   pub within : (s : ℕ) → s < rules → getD starts (2 * s) 0 < length nodes
 
 -- of each of the first rules, its root and its lowest component as one number
 pub record Keys (rules : ℕ) (starts nodes lows keys : List ℕ) : Type 0 where
-  pub long : length keys ≡ 64
+  pub long : length keys ≡ most-rules
   pub small : (s : ℕ) → s < rules → getD lows s 0 < 65536
   pub key : (s : ℕ) → s < rules → getD keys s 0 ≡ 65536 * root starts nodes s + getD lows s 0
 
 -- of each root, a component no higher than the lowest of any of the first rules with that root
 pub record Roots (rules : ℕ) (starts nodes lows roots : List ℕ) : Type 0 where
-  pub long : length roots ≡ 64
+  pub long : length roots ≡ symbols-room
   pub low : (s : ℕ) → s < rules → root starts nodes s < 64 → getD roots (root starts nodes s) 0 ≤ getD lows s 0
 
 -- what is kept to find arcs back: both, of the lowest component of each rule
@@ -116,16 +117,16 @@ pub record Noted-entry (e : Entry) (lows lows-after seen seen-after : List ℕ) 
 pub record Keys-asked (rules : ℕ) (starts nodes lows room : List ℕ) : Type 0 where
   pub begun : Begun rules starts nodes
   pub lows-long : length lows ≡ most-rules
-  pub room-long : length room ≡ 64
+  pub room-long : length room ≡ symbols-room
 
 -- arcs back are asked for from the pair whose right side is kept at `right`
 pub record Back-asked (rules : ℕ) (arities starts nodes flags keys roots : List ℕ) (right : ℕ) : Type 0 where
-  pub arrays : Kept-pack rules arities starts nodes flags
+  pub kept : System-kept rules arities starts nodes flags
   pub lows : List ℕ
   pub keyed : Keyed rules starts nodes lows keys roots
-  pub system : System
   pub pair : Pair
-  pub pair-kept : Pair-kept system pair rules arities starts nodes flags right
+  pub is : is-pair (kept .system) pair ≡ true
+  pub at-right : right ≡ getD starts (2 * pair .at-rule + 1) 0 + pair .place
 
 -- the same from the pair of an entry
 pub record Back-asked-of (e : Entry) (rules : ℕ) (arities starts nodes flags keys roots : List ℕ) : Type 0 where

@@ -1,5 +1,6 @@
 // 8 and 9: every pair stands once, and no arc leads back to a lower component.
 use entries::Entry;
+use pack_reader::MOST_NODES;
 use pack_reader::MOST_RULES;
 use records::Answer;
 use records::MOST_PAIRS;
@@ -9,9 +10,6 @@ ghost use mathlib.Core.Path.{_≡_};
 ghost use Prim.Native.Nat.{_<_};
 ghost use lib.ListN.{length};
 ghost use Rattle.partition.specs.Working.{slot, back-to, back-at, Keys, Roots, Lowered, Noted-entry, Keys-asked, Back-asked, Back-asked-of, Judgeable, Ordered-as};
-
-// A right side has at most so many places.
-const PLACES: usize = 32;
 
 // Above the number of every component.
 const NO_COMPONENT: u16 = 65535;
@@ -34,7 +32,7 @@ fn note(e: Entry, lows: &mut [u16], seen: &mut [u8]) -> bool
     ensures { λ r. ⌜ Noted-entry e (now (lows .entry)) (now (lows .exit)) (now (seen .entry)) (now (seen .exit)) r ⌝ }
 {
     lower(lows, e.rule as usize, e.component);
-    let slot = PLACES * (e.rule as usize) + e.place as usize;
+    let slot = MOST_NODES * (e.rule as usize) + e.place as usize;
     let before = seen[slot];
     seen[slot] = 1;
     0 < before
@@ -79,7 +77,7 @@ fn back_from(
     own: u16,
 ) -> bool
     requires { ⌜ Back-asked rules (now arities) (now starts) (now nodes) (now defined) (now keys) (now roots) right ⌝ }
-    ensures { λ r. ⌜ ((a : Back-asked rules (now (arities .entry)) (now (starts .entry)) (now (nodes .entry)) (now (defined .entry)) (now (keys .entry)) (now (roots .entry)) right) → r ≡ back-to (a .system) (a .lows) own (a .pair) rules) ⌝ }
+    ensures { λ r. ⌜ ((a : Back-asked rules (now (arities .entry)) (now (starts .entry)) (now (nodes .entry)) (now (defined .entry)) (now (keys .entry)) (now (roots .entry)) right) → r ≡ back-to (a .kept .system) (a .lows) own (a .pair) rules) ⌝ }
 {
     let c = nodes[right];
     // No rule with this root has a lower component.

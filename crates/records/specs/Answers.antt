@@ -1,4 +1,4 @@
--- The numbers of document 01's table, and what the code's answers say.
+-- The numbers of document 01's table, and 15 to 24 of document 02; what the code's answers say.
 use Prim.Native.Nat.{ℕ}
 use Rattle.records.specs.declared.Refusal.{Refusal}
 use Rattle.records.specs.declared.Refusal.the-variants.{CutFile, StrayRecord, OutOfRange, BrokenSide, BareLeft, LooseVariable, NoSuchPair, PairCount, BackArc, SelfArc, Heavy, RuleRises, PairStays, ShortList, BadText, TextLimits, NoneLeaves, LostArgument, RuleStays, Full, WrongContinuation, EndsDiffer, SideSpent, NoSuchRule}

@@ -31,6 +31,7 @@ W-weight = 87
 abbrev pub M-marked : ℕ
 M-marked = 77
 
+-- document 02's, which no row lets come
 abbrev pub D-counting : ℕ
 D-counting = 68
 
@@ -87,7 +88,7 @@ other = 13
 abbrev pub columns : ℕ
 columns = 14
 
--- a certificate and its components start in two rows, since what only begins a certificate may not begin its components
+-- a certificate and its components start in two rows, which say the same: a record that only begins a certificate belongs in the first
 abbrev pub components-start : ℕ
 components-start = 5
 

@@ -8,6 +8,16 @@ use lib.ListN.{length, getD, take, drop}
 use Rattle.rewriting.specs.Terms.{Tree, System, is-term}
 use Rattle.terms.specs.Sides.{Node, variable, symbol, flat}
 
+-- THE ROOM in which a pack is kept: a byte a symbol, where each side starts and the last one ends, a byte a node
+abbrev pub symbols-room : ℕ
+symbols-room = 64
+
+abbrev pub starts-room : ℕ
+starts-room = 129
+
+abbrev pub nodes-room : ℕ
+nodes-room = 4096
+
 -- a node as a byte: a symbol's number, or 64 and a variable's number
 unfoldable pub code : Node → ℕ
 code (variable v) = 64 + v

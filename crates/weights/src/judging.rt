@@ -3,15 +3,16 @@ use crate::Verdict;
 use crate::sums::BEFORE_VARIABLES;
 use crate::sums::SUMS;
 use crate::table::CELLS;
-use terms::MOST_NODES;
 use terms::MOST_SYMBOLS;
 use terms::Marked;
+use terms::NODES_ROOM;
 use terms::Symbol;
 ghost use mathlib.Core.Path.{_≡_};
 ghost use mathlib.Core.Bool.{true, false, not};
 ghost use mathlib.Core.List.{List};
 ghost use lib.ListN.{length, replicate};
 ghost use Prim.Native.Nat.{ℕ, _-_, _≤_};
+ghost use Rattle.terms.specs.Kept.{nodes-room};
 ghost use Rattle.polynomials.specs.Polynomials.{Weight};
 ghost use Rattle.polynomials.specs.Judging.{rule-over, rule-rises, call-over, call-falls};
 ghost use Rattle.rewriting.specs.Pairs.{arguments};
@@ -24,12 +25,12 @@ ghost use Rattle.weights.specs.Working.{Weighable, Applied, rooted, root
 fn side(
     arities: &[u8; MOST_SYMBOLS],
     table: &[u16; CELLS],
-    nodes: &[u8; MOST_NODES],
+    nodes: &[u8; NODES_ROOM],
     at: usize,
     left: usize,
     sums: &mut [u64; SUMS],
 )
-    requires { ⌜ (length (now nodes) ≤ 4096) × Weighable (now arities) (now nodes) at left × (now sums ≡ replicate 17 0) ⌝ }
+    requires { ⌜ (length (now nodes) ≤ nodes-room) × Weighable (now arities) (now nodes) at left × (now sums ≡ replicate 17 0) ⌝ }
     ensures { λ _. ⌜ ((w : Weighable (now (arities .entry)) (now (nodes .entry)) at left) (ws : List Weight) → Table-is (now (table .entry)) ws → Summed (rooted-over ws ws (w .term)) (rooted ws ws (w .term)) (now (sums .exit))) ⌝ }
     ensures long { λ _. ⌜ length (now (sums .exit)) ≡ 17 ⌝ }
 {
@@ -47,12 +48,12 @@ fn side(
 pub fn judge_rule(
     arities: &[u8; MOST_SYMBOLS],
     table: &[u16; CELLS],
-    nodes: &[u8; MOST_NODES],
+    nodes: &[u8; NODES_ROOM],
     left: usize,
     right: usize,
     end: usize,
 ) -> Verdict
-    requires { ⌜ (length (now nodes) ≤ 4096) × (left ≤ right) × (right ≤ end) × Weighable (now arities) (now nodes) left (right - left) × Weighable (now arities) (now nodes) right (end - right) ⌝ }
+    requires { ⌜ (length (now nodes) ≤ nodes-room) × (left ≤ right) × (right ≤ end) × Weighable (now arities) (now nodes) left (right - left) × Weighable (now arities) (now nodes) right (end - right) ⌝ }
     ensures { λ r. ⌜ ((l : Weighable (now (arities .entry)) (now (nodes .entry)) left (right - left)) (m : Weighable (now (arities .entry)) (now (nodes .entry)) right (end - right)) (ws ms : List Weight) → Table-is (now (table .entry)) ws → r ≡ verdict (rule-over (record { weights = ws; marked = ms }) (record { left = l .term; right = m .term })) (not (rule-rises (record { weights = ws; marked = ms }) (record { left = l .term; right = m .term })))) ⌝ }
 {
     let mut x = [0u64; SUMS];
@@ -76,13 +77,13 @@ pub fn judge_rule(
 pub fn marked_side(
     arities: &[u8; MOST_SYMBOLS],
     table: &[u16; CELLS],
-    nodes: &[u8; MOST_NODES],
+    nodes: &[u8; NODES_ROOM],
     at: usize,
     left: usize,
     skips: bool,
     sums: &mut [u64; SUMS],
 )
-    requires { ⌜ (length (now nodes) ≤ 4096) × Applied (now arities) (now nodes) at left × (now sums ≡ replicate 17 0) ⌝ }
+    requires { ⌜ (length (now nodes) ≤ nodes-room) × Applied (now arities) (now nodes) at left × (now sums ≡ replicate 17 0) ⌝ }
     ensures { λ _. ⌜ Side-summed (now (arities .entry)) (now (nodes .entry)) (now (table .entry)) at left skips (now (sums .exit)) ⌝ }
     ensures long { λ _. ⌜ length (now (sums .exit)) ≡ 17 ⌝ }
 {
@@ -94,13 +95,13 @@ pub fn marked_side(
 pub fn judge_call(
     arities: &[u8; MOST_SYMBOLS],
     table: &[u16; CELLS],
-    nodes: &[u8; MOST_NODES],
+    nodes: &[u8; NODES_ROOM],
     at: usize,
     left: usize,
     skips: bool,
     x: &[u64; SUMS],
 ) -> Verdict
-    requires { ⌜ (length (now nodes) ≤ 4096) × Applied (now arities) (now nodes) at left × (length (now x) ≡ 17) ⌝ }
+    requires { ⌜ (length (now nodes) ≤ nodes-room) × Applied (now arities) (now nodes) at left × (length (now x) ≡ 17) ⌝ }
     ensures { λ r. ⌜ ((there before : ℕ) (l : Applied (now (arities .entry)) (now (nodes .entry)) there before) (m : Applied (now (arities .entry)) (now (nodes .entry)) at left) (ws ms : List Weight) → Side-summed (now (arities .entry)) (now (nodes .entry)) (now (table .entry)) there before skips (now (x .entry)) → Table-is (now (table .entry)) ws → Marked-is (now (table .entry)) ms → (skips ≡ true → (over ws (arguments (l .side .term)) ≡ false) × (over ws (arguments (m .side .term)) ≡ false)) → r ≡ verdict (call-over (record { weights = ws; marked = ms }) (record { left = l .side .term; right = m .side .term })) (call-falls (record { weights = ws; marked = ms }) (record { left = l .side .term; right = m .side .term }))) ⌝ }
 {
     if crate::sums::over(x) {

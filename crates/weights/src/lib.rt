@@ -6,8 +6,8 @@ pub mod table;
 use sums::BEFORE_VARIABLES;
 use sums::SUMS;
 use table::CELLS;
-use terms::MOST_NODES;
 use terms::MOST_SYMBOLS;
+use terms::NODES_ROOM;
 use terms::Symbol;
 ghost use mathlib.Core.Path.{_≡_};
 ghost use mathlib.Core.Bool.{false};
@@ -15,6 +15,7 @@ ghost use mathlib.Core.List.{List};
 ghost use Prim.Native.Nat.{_+_, _≤_, _<_};
 ghost use lib.Dec.{ltb};
 ghost use lib.ListN.{length, getD};
+ghost use Rattle.terms.specs.Kept.{nodes-room};
 ghost use Rattle.terms.specs.Sides.{flat};
 ghost use Rattle.polynomials.specs.Polynomials.{Weight, scaled-sum};
 ghost use Rattle.polynomials.specs.Limit.{limit};
@@ -51,12 +52,12 @@ pub fn form_at(
     at: usize,
     row: usize,
     table: &[u16; CELLS],
-    nodes: &[u8; MOST_NODES],
+    nodes: &[u8; NODES_ROOM],
     arities: &[u8; MOST_SYMBOLS],
     left: usize,
     skips: bool,
 ) -> usize
-    requires { ⌜ Weighable (now arities) (now nodes) at left × (getD (now nodes) at 0 < 64) × (row + 8 < 1152) × (factor ≤ limit + 1) × Sums (now sums) × (length (now nodes) ≤ 4096) ⌝ }
+    requires { ⌜ Weighable (now arities) (now nodes) at left × (getD (now nodes) at 0 < 64) × (row + 8 < 1152) × (factor ≤ limit + 1) × Sums (now sums) × (length (now nodes) ≤ nodes-room) ⌝ }
     ensures bounded { λ _. ⌜ (length (now (sums .exit)) ≡ 17) × (ltb limit (getD (now (sums .exit)) 0 0) ≡ false → Sums (now (sums .exit))) ⌝ }
     ensures ends { λ r. ⌜ ((w : Weighable (now (arities .entry)) (now (nodes .entry)) at left) → ltb limit (getD (now (sums .exit)) 0 0) ≡ false → r ≡ at + length (flat (w .term))) ⌝ }
     ensures means { λ r. ⌜ ((w : Weighable (now (arities .entry)) (now (nodes .entry)) at left) (rs ws : List Weight) → Row-is (now (table .entry)) row (getD (now (nodes .entry)) at 0) rs → Table-is (now (table .entry)) ws → Known-within skips factor rs ws (w .term) → Adds-to (rooted-over rs ws (w .term)) (scaled-sum factor (numbers (rooted rs ws (w .term))) (now (sums .entry))) (now (sums .exit))) ⌝ }

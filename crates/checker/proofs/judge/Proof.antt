@@ -20,7 +20,7 @@ use Rattle.judging.specs.Judges.{plain}
 use Rattle.judging.specs.Judge.{all-pairs, each-once, back-arc, components-refusal, judged}
 use Rattle.partition.specs.Working.{ordered, Ordered-as}
 use Rattle.checker.specs.Working.{Judged-as}
-use Rattle.checker.proofs.FromRead.{components-from}
+use Rattle.checker.proofs.FromRead.{components-asked}
 use Rattle.checker.proofs.judge.Statement.{statement}
 use Rattle.checker.proofs.judge.Tie as tie
 
@@ -50,23 +50,22 @@ passed-on p cs r n e h =
     let z : ordered p cs ≡ 0 = sym h ∙ ap (λ (a : Answer). refusal (answer-outcome a)) e in
     judged-then p cs ∙ rw z
 
-asked : tie.Need-judge-components-requires
-asked c κs =
-    let start = c .before .before .before .before .before .before .before .before in
-    let a = start .args in
-    let w = start .pre .3 in
-    (start .pre .0, start .pre .1, start .pre .2, (w .0, components-from (w .0) (a .certificate .now) (a .components) (a .rules) _ _ _ _ (w .1)))
-
 returns : tie.Need-returns
 unfolding Judged-as
-returns c = λ p j. sym (refused-stays p (j .all) _ _ (c .before .x .given .1) (c .before .before .before .judge .ensures p j))
+returns c = λ j. sym (refused-stays _ _ _ _ (c .before .x .given .1) (c .before .before .before .judge .ensures j))
 
 returns-2 : tie.Need-returns-2
 unfolding Judged-as
-returns-2 c = λ p j.
-    let a = c .before .before .before .before .before .before .before .before .before .args in
-    c .judge-components .ensures p (components-from p (a .certificate .now) (a .components) (a .rules) _ _ _ _ j)
-    ∙ sym (passed-on p (j .all) _ _ (c .before .enum-told .given .1) (c .before .before .before .judge .ensures p j))
+returns-2 c = λ j.
+    c .judge-components .ensures (components-asked j) ∙ sym (passed-on _ _ _ _ (c .before .enum-told .given .1) (c .before .before .before .judge .ensures j))
 
 pub judge-spec : {M : Type 1} → statement M
-judge-spec = tie.close (tie.spec (λ c κs. search needs) (λ c. search needs) (λ c. search needs) asked returns returns-2)
+judge-spec =
+    tie.close
+    (tie.spec
+    (λ c κs. search needs)
+    (λ c. search needs)
+    (λ c. search needs)
+    (λ c κs. components-asked (c .before .before .before .before .before .before .before .before .pre))
+    returns
+    returns-2)

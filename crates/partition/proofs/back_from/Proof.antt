@@ -13,7 +13,7 @@ use Rattle.partition.proofs.back_from.Tie as tie
 
 abbrev Inv-loop : tie.InvT-loop
 Inv-loop arities starts nodes flags rules keys roots right own c end from s₀ s =
-    (s ≤ rules) × ((a : Back-asked rules arities starts nodes flags keys roots right) → back-to (a .system) (a .lows) own (a .pair) s ≡ false)
+    (s ≤ rules) × ((a : Back-asked rules arities starts nodes flags keys roots right) → back-to (a .kept .system) (a .lows) own (a .pair) s ≡ false)
 
 abbrev μ-loop : tie.MeasureT-loop
 μ-loop arities starts nodes flags rules keys roots right own c end from s₀ s = rules - s
@@ -24,20 +24,13 @@ early c = λ a. sym (none-lower a (c .before .before .before .before .before .be
 ended : tie.Need-skip-requires Inv-loop μ-loop
 ended c κs =
     let a = c .before .before .before .before .before .before .before .before .before .pre in
-    (a .arrays .arities-long, omega (arith, a .arrays .nodes-long), right-term a)
+    (a .kept .arrays .arities-long, omega (arith, a .kept .arrays .nodes-long), right-term a)
 
 asked : tie.Need-arc-to-requires Inv-loop μ-loop
 asked c κs =
     let turn = c .before .before .before in
     let a = turn .before .before .before .before .before .before .before .before .before .before .before .before .pre in
-    let pack = a .arrays in (
-      pack .arities-long,
-      pack .laid .starts-long,
-      pack .flags-long,
-      omega (arith, pack .nodes-long),
-      turn .before .before .skip .ensures,
-      asked-of a (turn .before .loop .s) (turn .loop-test .taken),
-    )
+    record { asked = asked-of a (turn .before .loop .s) (turn .loop-test .taken); ends = turn .before .before .skip .ensures }
 
 found : tie.Need-returns-2 Inv-loop μ-loop
 found c = λ a.
@@ -88,8 +81,8 @@ back-from-spec =
     (λ c. omega (arith, root-small (c .before .before .before .before .before .before .before .before .before .before .pre)))
     (λ c. omega (arith, root-small (c .before .before .before .before .before .before .before .before .before .before .pre)))
     (λ c. (omega arith, λ a. refl))
-    (λ c. omega (arith, c .before .before .before .before .before .before .before .before .before .before .before .before .pre .arrays .laid .few))
-    (λ c. let a = c .before .before .before .before .before .before .before .before .before .before .before .before .before .pre in omega (arith, a .arrays .laid .few, a .keyed .keys-are .long))
+    (λ c. omega (arith, c .before .before .before .before .before .before .before .before .before .before .before .before .pre .kept .arrays .laid .few))
+    (λ c. let a = c .before .before .before .before .before .before .before .before .before .before .before .before .before .pre in omega (arith, a .kept .arrays .laid .few, a .keyed .keys-are .long))
     (λ c κs. search needs)
     asked
     found

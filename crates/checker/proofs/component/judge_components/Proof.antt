@@ -22,7 +22,7 @@ use Rattle.certificates.specs.Components.{Component, no-component}
 use Rattle.certificates.specs.Encoding.{component-records}
 use Rattle.judging.specs.Judges.{plain}
 use Rattle.judging.specs.Judge.{component-refusal, components-refusal}
-use Rattle.checker.specs.Working.{Component-at, Component-fits, Component-judged, Rules-known, last-weights, Known-after, Components-from, record-count}
+use Rattle.checker.specs.Working.{Component-judged, Rules-known, last-weights, Known-after, record-count, Component-there, Component-asked, Component-answered, Components-asked}
 use Rattle.checker.proofs.Positions.{next-component}
 use Rattle.checker.proofs.Known.{none-known}
 use Rattle.checker.proofs.Tables.{no-weights}
@@ -39,8 +39,8 @@ abbrev Inv-loop : tie.InvT-loop
 Inv-loop certificate components rules arities starts nodes flags table₀ before₀ at₀ i₀ table before at i =
     (i ≤ components)
     × Marked-is table []
-    × ((p : System) (a : Components-from p certificate components rules arities starts nodes flags) →
-    Components-left p certificate (a .all) at i × Rules-known p certificate at before table)
+    × ((a : Components-asked certificate components rules arities starts nodes flags) →
+    Components-left (a .kept .system) certificate (a .all) at i × Rules-known (a .kept .system) certificate at before table)
 
 abbrev μ-loop : tie.MeasureT-loop
 μ-loop certificate components rules arities starts nodes flags table₀ before₀ at₀ i₀ table before at i = components - i
@@ -55,8 +55,11 @@ answer-passed true m n k e = (refl, cc)
 answer-passed false m n k e = let z : _≡_ {A = ℕ} 0 1 = cc in absurd (omega arith)
 
 module _
-    {p : System} {cert : List ℕ} {components rules : ℕ} {ar ss ns ms : List ℕ} (a : Components-from p cert components rules ar ss ns ms) (at i : ℕ)
-    (left : Components-left p cert (a .all) at i) where
+    {cert : List ℕ} {components rules : ℕ} {ar ss ns ms : List ℕ} (a : Components-asked cert components rules ar ss ns ms) (at i : ℕ)
+    (left : Components-left (a .kept .system) cert (a .all) at i) where
+  abbrev p : System
+  p = a .kept .system
+
   none-left : components ≤ i → 0 ≡ components-refusal p (plain p) (a .all)
   unfolding components-refusal
   none-left h = sym (left .number ∙ ap (components-refusal p (plain p)) (drop-of-length-le (a .all) {i = i} (omega (arith, a .counted))))
@@ -69,43 +72,46 @@ module _
     in-range : i < length (a .all)
     in-range = omega (arith, a .counted)
 
-    fits : Component-fits p component
-    fits = a .fit i in-range
-
     others : drop i (a .all) ≡ component ∷ drop (suc i) (a .all)
     others = drop-cons (a .all) i no-component in-range
 
-    here : Component-at cert at component
-    here = record { i = i; others = drop (suc i) (a .all); are = left .are ∙ ap (component-records i) others }
+    abbrev there : Component-there cert at
+    there =
+        record { file = a .file; component = component; stands = record { i = i; others = drop (suc i) (a .all); are = left .are ∙ ap (component-records i) others } }
 
     number-here : components-refusal p (plain p) (a .all)
         ≡ cond (eqb (component-refusal p (plain p) component) 0) (components-refusal p (plain p) (drop (suc i) (a .all))) (component-refusal p (plain p) component)
     unfolding components-refusal
     number-here = left .number ∙ ap (components-refusal p (plain p)) others
 
-    module _ {r : Answer} (judged : Component-fits p component → Component-at cert at component → Component-judged p component at r) where
-      refuses : (x : Refusal) → r ≡ Refused x → number-of x ≡ components-refusal p (plain p) (a .all)
-      unfolding Component-judged
-      refuses x e =
-          let n = component-refusal p (plain p) component in
-          let is = answer-refused (eqb n 0) (at + record-count component) n (number-of x) (ap answer-outcome (sym e) ∙ judged fits here) in
-          is .1 ∙ sym (number-here ∙ rw (is .0))
+    module _ {before : ℕ} {table : List ℕ} (unmarked : Marked-is table []) (known : Rules-known p cert at before table) where
+      abbrev asked : Component-asked cert at before rules ar ss ns ms table
+      asked = record { there = there; kept = a .kept; fits = a .fit i in-range; unmarked = unmarked; known = known }
 
-      passes : (next : ℕ) → r ≡ Passed next → Components-left p cert (a .all) next (i + 1)
-      unfolding Component-judged here
-      passes next e =
-          let n = component-refusal p (plain p) component in
-          let is = answer-passed (eqb n 0) (at + record-count component) n next (ap answer-outcome (sym e) ∙ judged fits here) in
-          rw (is .1, add-one)
-          (record { are = next-component cert at component here; number = number-here ∙ rw (is .0) })
+      module _ {after : List ℕ} {r : Answer} (answered : Component-answered cert at before rules ar ss ns ms table after r) where
+        abbrev number : ℕ
+        number = component-refusal p (plain p) component
 
-      passes-known : (before : ℕ) {last : ℕ} {table : List ℕ} → Known-after p component cert at before table → ((d : Component) → Component-at cert at d → last ≡ last-weights d at before) →
-          (next : ℕ) → r ≡ Passed next → Rules-known p cert next last table
-      unfolding Component-judged Known-after
-      passes-known before after begins next e =
-          let n = component-refusal p (plain p) component in
-          let is = answer-passed (eqb n 0) (at + record-count component) n next (ap answer-outcome (sym e) ∙ judged fits here) in
-          rw (is .1, begins component here) (after (eqb-true n 0 (is .0)))
+        is : answer-outcome r ≡ cond (eqb number 0) (passed (at + record-count component)) (refused number)
+        unfolding Component-judged
+        is = answered .judged asked
+
+        refuses : (x : Refusal) → r ≡ Refused x → number-of x ≡ components-refusal p (plain p) (a .all)
+        refuses x e =
+            let found = answer-refused (eqb number 0) (at + record-count component) number (number-of x) (ap answer-outcome (sym e) ∙ is) in
+            found .1 ∙ sym (number-here ∙ rw (found .0))
+
+        -- it has passed
+        module _ (next : ℕ) (e : r ≡ Passed next) where
+          found : (eqb number 0 ≡ true) × (next ≡ at + record-count component)
+          found = answer-passed (eqb number 0) (at + record-count component) number next (ap answer-outcome (sym e) ∙ is)
+
+          passes : Components-left p cert (a .all) next (i + 1)
+          passes = rw (found .1, add-one) (record { are = next-component (there .stands); number = number-here ∙ rw (found .0) })
+
+          passes-known : {last : ℕ} → ((x : Component-there cert at) → last ≡ last-weights (x .component) at before) → Rules-known p cert next last after
+          unfolding Known-after
+          passes-known begins = rw (found .1, begins there) (answered .known asked (eqb-true number 0 (found .0)))
 
 abbrev start : tie.At-loop Inv-loop μ-loop → tie.Start Inv-loop μ-loop
 start c = c .before .before .before .before
@@ -114,34 +120,23 @@ requires : tie.Need-judge-component-requires Inv-loop μ-loop
 requires c κs =
     let turn = c .before in
     let l = turn .before .loop in
-    let asked = start (turn .before) .pre in
-    let p = asked .3 .0 in
-    let a = asked .3 .1 in
-    let h = turn .loop-test .taken in
-    let left = l .inv .2 p a .0 in (
-      asked .0,
-      asked .1,
-      asked .2,
-      l .inv .1,
-      (p, a .symbols, _, a .stored, fits a (l .at) (l .i) left h, here a (l .at) (l .i) left h, l .inv .2 p a .1),
-    )
+    let a = start (turn .before) .pre in
+    asked a (l .at) (l .i) (l .inv .2 a .0) (turn .loop-test .taken) (l .inv .1) (l .inv .2 a .1)
 
 returns : tie.Need-returns Inv-loop μ-loop
 returns c =
     let called = c .before .before .before in
     let turn = called .before .before in
     let l = turn .before .loop in
-    λ p a.
-    refuses a (l .at) (l .i) (l .inv .2 p a .0) (turn .loop-test .taken)
-    (λ f h. called .judge-component .ensures .1 p (a .symbols) _ (a .stored) f h (l .inv .2 p a .1) .0) _ (c .before .x .given .1)
+    λ a.
+    refuses a (l .at) (l .i) (l .inv .2 a .0) (turn .loop-test .taken) (l .inv .1) (l .inv .2 a .1) (called .judge-component .ensures) _ (c .before .x .given .1)
 
 last-weights-requires : tie.Need-last-weights-requires Inv-loop μ-loop
 last-weights-requires c κs =
     let turn = c .before .before .before .before .before in
     let l = turn .before .loop in
-    let asked = start (turn .before) .pre in
-    let a = asked .3 .1 in
-    (asked .1, (_, here a (l .at) (l .i) (l .inv .2 (asked .3 .0) a .0) (turn .loop-test .taken)))
+    let a = start (turn .before) .pre in
+    there a (l .at) (l .i) (l .inv .2 a .0) (turn .loop-test .taken)
 
 again : tie.Need-loop-again Inv-loop μ-loop
 again c =
@@ -149,17 +144,14 @@ again c =
     let called = passed .before .before in
     let turn = called .before .before in
     let l = turn .before .loop in
-    let h = turn .loop-test .taken in (
+    let h = turn .loop-test .taken in
+    let answered = called .judge-component .ensures in (
       omega arith,
-      called .judge-component .ensures .0,
-      λ p a.
-          let left = l .inv .2 p a .0 in
-          let known = l .inv .2 p a .1 in
-          let judged = called .judge-component .ensures .1 p (a .symbols) (component a (l .at) (l .i) left h) (a .stored) in (
-            passes a (l .at) (l .i) left h (λ f k. judged f k known .0) _ (passed .next .given .1),
-            passes-known a (l .at) (l .i) left h (λ f k. judged f k known .0) _
-                (judged (fits a (l .at) (l .i) left h) (here a (l .at) (l .i) left h) known .1) (c .last-weights .ensures) _ (passed .next .given .1),
-          ),
+      answered .unmarked,
+      λ a. (
+        passes a (l .at) (l .i) (l .inv .2 a .0) h (l .inv .1) (l .inv .2 a .1) answered _ (passed .next .given .1),
+        passes-known a (l .at) (l .i) (l .inv .2 a .0) h (l .inv .1) (l .inv .2 a .1) answered _ (passed .next .given .1) (c .last-weights .ensures),
+      ),
     )
 
 pub judge-components-spec : {M : Type 1} → statement M
@@ -168,7 +160,7 @@ judge-components-spec =
     (tie.spec
     Inv-loop
     μ-loop
-    (λ c. (omega arith, no-weights 576 (omega arith), λ p a. (record { are = a .are; number = refl }, none-known p _)))
+    (λ c. (omega arith, no-weights 576 (omega arith), λ a. (record { are = a .are; number = refl }, none-known (a .kept .system) _)))
     requires
     (λ c. search needs)
     returns
@@ -177,4 +169,4 @@ judge-components-spec =
     (λ c. omega arith)
     (λ c. omega arith)
     again
-    (λ c. let l = c .before .loop in λ p a. none-left a (l .at) (l .i) (l .inv .2 p a .0) (c .loop-test .left)))
+    (λ c. let l = c .before .loop in λ a. none-left a (l .at) (l .i) (l .inv .2 a .0) (c .loop-test .left)))

@@ -10,21 +10,21 @@ use Rattle.records.specs.declared.Record.{Record}
 use Rattle.records.specs.Records.{record-at}
 use Rattle.certificates.specs.Components.{Component}
 use Rattle.checker.specs.Working.{Component-at, last-weights}
-use Rattle.checker.proofs.Positions.{header-here, weightings-read, pairs-read}
+use Rattle.checker.proofs.Positions.{header-within, weightings-read, pairs-read}
 use Rattle.checker.proofs.component.last_weights.Statement.{statement}
 use Rattle.checker.proofs.component.last_weights.Tie as tie
 
-module _ {cert : List ℕ} {at : ℕ} (c : Component) (here : Component-at cert at c) {r : Record} (read : r ≡ record-at cert (8 * at)) (before : ℕ) where
+module _ {cert : List ℕ} {at : ℕ} {c : Component} (here : Component-at cert at c) {r : Record} (read : r ≡ record-at cert (8 * at)) (before : ℕ) where
   kept : r .b ≡ 0 → before ≡ last-weights c at before
   unfolding last-weights
-  kept h = rw (eq-eqb (length (c .weightings)) 0 (sym (weightings-read cert at c here read) ∙ h))
+  kept h = rw (eq-eqb (length (c .weightings)) 0 (sym (weightings-read here read) ∙ h))
 
   its-own : (r .b ≡ 0 → ⊥) → at + 1 + r .c ≡ last-weights c at before
   unfolding last-weights
-  its-own h = rw (ne-eqb (length (c .weightings)) 0 (λ e. h (weightings-read cert at c here read ∙ e)), pairs-read cert at c here read)
+  its-own h = rw (ne-eqb (length (c .weightings)) 0 (λ e. h (weightings-read here read ∙ e)), pairs-read here read)
 
 within : (c : tie.Start) → c .args .at < length (c .args .certificate .now) / 8
-within c = header-here _ _ _ (c .pre .1 .1) .0
+within c = header-within (c .pre .stands)
 
 pub last-weights-spec : {M : Type 1} → statement M
 last-weights-spec =
@@ -32,8 +32,8 @@ last-weights-spec =
     (tie.spec
     (λ c. omega (arith, within (c .before)))
     (λ c κs. omega (arith, within (c .before)))
-    (λ c. let read = c .before .before in λ d here. kept d here (read .record-at .ensures) _ (c .if1 .taken))
+    (λ c. let read = c .before .before in λ a. kept (a .stands) (read .record-at .ensures) _ (c .if1 .taken))
     (λ c. omega (arith, within (c .before .before .before .before)))
     (λ c. search needs)
     (λ c. omega (arith, within (c .before .before .before .before .before)))
-    (λ c. let read = c .before .before .before in λ d here. its-own d here (read .record-at .ensures) _ (c .before .if1 .left)))
+    (λ c. let read = c .before .before .before in λ a. its-own (a .stands) (read .record-at .ensures) _ (c .before .if1 .left)))

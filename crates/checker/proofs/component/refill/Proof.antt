@@ -6,24 +6,31 @@ use Rattle.checker.proofs.component.refill.Tie as tie
 
 fill-requires : tie.Need-fill-requires
 unfolding own-base
-fill-requires c κs = let start = c .before .before .before in (start .pre .0, start .pre .1, start .pre .3 (c .before .if1 .taken), start .pre .2)
+fill-requires c κs =
+    let asked = c .before .before .before .pre in
+    record { file = asked .file; empty = asked .none (c .before .if1 .taken); weights = asked .weights; stand = asked .stand }
 
 returns : tie.Need-returns
 unfolding own-base other-base Others-stay
-returns c = (c .fill .ensures .0, c .fill .ensures .1)
+returns c = let filled = c .fill .ensures in record { ends = filled .ends; holds = filled .holds; marked-stay = filled .others }
 
 clear-requires : tie.Need-clear-requires
 unfolding own-base
-clear-requires c κs = c .before .before .before .pre .4 (omega (arith, c .before .if1 .left))
+clear-requires c κs =
+    let held = c .before .before .before .pre .some (omega (arith, c .before .if1 .left)) in
+    record { weights = held .weights; stand = held .stand; held = held .kept }
 
 fill-requires-2 : tie.Need-fill-requires-2
 fill-requires-2 c κs =
-    let start = c .before .before .before .before .before in
-    (start .pre .0, start .pre .1, c .before .clear .ensures .0, start .pre .2)
+    let asked = c .before .before .before .before .before .pre in
+    record { file = asked .file; empty = c .before .clear .ensures .empty; weights = asked .weights; stand = asked .stand }
 
 returns-2 : tie.Need-returns-2
 unfolding own-base other-base Others-stay
-returns-2 c = (c .fill2 .ensures .0, λ ms h. c .fill2 .ensures .1 ms (c .before .before .clear .ensures .1 ms h))
+returns-2 c =
+    let filled = c .fill2 .ensures in
+    let cleared = c .before .before .clear .ensures in
+    record { ends = filled .ends; holds = filled .holds; marked-stay = λ ms h. filled .others ms (cleared .others ms h) }
 
 pub refill-spec : {M : Type 1} → statement M
 refill-spec = tie.close (tie.spec fill-requires returns clear-requires fill-requires-2 returns-2)

@@ -1,5 +1,5 @@
 -- `checker::component::unweighted` meets its contract: its one pair is read, and asked for an arc to its own rule.
-use mathlib.Core.Path.{_≡_, refl, _∙_}
+use mathlib.Core.Path.{_≡_, refl, ap, _∙_}
 use mathlib.Core.Bool.{Bool, true, false, cond}
 use mathlib.Core.List.{List, [], _∷_}
 use Prim.Native.Nat.{ℕ, _+_, _*_, _/_, _<_}
@@ -23,7 +23,7 @@ use Rattle.certificates.specs.Components.{Component}
 use Rattle.judging.specs.Judges.{plain}
 use Rattle.judging.specs.Judge.{weighed-refusal, component-refusal}
 use Rattle.partition.specs.Working.{All-pairs}
-use Rattle.checker.specs.Working.{Component-at, Component-fits, Component-judged, weight-count, record-count}
+use Rattle.checker.specs.Working.{Component-judged, weight-count, record-count, Unweighted-asked}
 use Rattle.judging.proofs.Components.{only-arc}
 use Rattle.checker.proofs.FromStore.{pair-in-rules}
 use Rattle.checker.proofs.Positions.{pairs-here, pair-here}
@@ -34,31 +34,45 @@ no-weightings : (ws : List Weighting) → length ws ≡ 0 → ws ≡ []
 no-weightings [] h = refl
 no-weightings (w ∷ ws) h = absurd (omega arith)
 
-module _
-    {p : System} {symbols rules : ℕ} {ar ss ns ms : List ℕ} (s : Stored p symbols rules ar ss ns ms) {cert : List ℕ} {at : ℕ} {c : Component}
-    (fits : Component-fits p c) (here : Component-at cert at c) (none : length (c .weightings) ≡ 0) where
+number-of-none : (p : System) (c : Component) → c .weightings ≡ [] → length (c .pairs) ≡ 1 →
+    let q = getD (c .pairs) 0 (a-pair 0 0) in component-refusal p (plain p) c ≡ cond (arc p q q) 10 0
+unfolding component-refusal weighed-refusal plain
+number-of-none p c none one = rw (none, only-arc (plain p) (a-pair 0 0) (c .pairs) one)
+
+count-of-none : (c : Component) → c .weightings ≡ [] → length (c .pairs) ≡ 1 → record-count c ≡ 2
+unfolding record-count weight-count
+count-of-none c none one = rw (none, one) (omega arith)
+
+module _ {cert : List ℕ} {at rules : ℕ} {ar ss ns ms : List ℕ} (a : Unweighted-asked cert at rules ar ss ns ms) where
+  abbrev p : System
+  p = a .kept .system
+
+  abbrev s : Stored p (a .kept .symbols) rules ar ss ns ms
+  s = a .kept .stored
+
+  abbrev c : Component
+  c = a .there .component
+
   abbrev q : Pair
   q = getD (c .pairs) 0 (a-pair 0 0)
 
   one : length (c .pairs) ≡ 1
-  one = fits .alone none
+  one = a .fits .alone (a .none)
 
   is : is-pair p q ≡ true
   unfolding All-pairs
-  is = fits .are-pairs 0 (omega (arith, one))
+  is = a .fits .are-pairs 0 (omega (arith, one))
 
   -- its record is the next
   its-record : (at + 1 < length cert / 8) × (record-at cert (8 * (at + 1)) ≡ pair-record q)
-  its-record = rw add-zero at (pair-here cert (at + 1) (c .pairs) (pairs-here cert at c here) 0 (omega (arith, one)))
+  its-record = rw add-zero at (pair-here cert (at + 1) (c .pairs) (pairs-here (a .there .stands)) 0 (omega (arith, one)))
 
   -- the number, and the record after the component
   number : component-refusal p (plain p) c ≡ cond (arc p q q) 10 0
-  unfolding component-refusal weighed-refusal plain
-  number = rw (no-weightings (c .weightings) none, only-arc (plain p) (a-pair 0 0) (c .pairs) one)
+  number = number-of-none p c (no-weightings (c .weightings) (a .none)) one
 
   counted : at + record-count c ≡ at + 2
-  unfolding record-count weight-count
-  counted = rw (no-weightings (c .weightings) none, one) (omega arith)
+  counted = ap (λ n. at + n) (count-of-none c (no-weightings (c .weightings) (a .none)) one)
 
   module _ {r : Record} (read : r ≡ record-at cert (8 * (at + 1))) where
     reads-pair : r ≡ pair-record q
@@ -70,12 +84,12 @@ module _
 
     asked : Arc-asked ar ss ns ms (getD ss (2 * r .a + 1) 0 + r .b) (r .a)
     unfolding pair-record
-    asked = rw reads-pair (stored-arc p symbols rules ar ss ns ms s q (q .at-rule) is (pair-in-rules s q is))
+    asked = rw reads-pair (stored-arc p (a .kept .symbols) rules ar ss ns ms s (a .kept .arrays) q (q .at-rule) is (pair-in-rules s q is))
 
-    module _ {b : Bool} (answer : (a : Arc-asked ar ss ns ms (getD ss (2 * r .a + 1) 0 + r .b) (r .a)) → b ≡ arc (a .system) (a .pair) (a-pair (r .a) 0)) where
+    module _ {b : Bool} (answer : (x : Arc-asked ar ss ns ms (getD ss (2 * r .a + 1) 0 + r .b) (r .a)) → b ≡ arc (x .kept .system) (x .pair) (a-pair (r .a) 0)) where
       self-arc : b ≡ arc p q q
       unfolding pair-record
-      self-arc = stored-arc-answer p symbols rules ar ss ns ms s q q is (pair-in-rules s q is) b (rw reads-pair at answer)
+      self-arc = stored-arc-answer p (a .kept .symbols) rules ar ss ns ms s (a .kept .arrays) q q is (pair-in-rules s q is) b (rw reads-pair at answer)
 
       refuses : b ≡ true → Component-judged p c at (Refused SelfArc)
       unfolding Component-judged
@@ -85,42 +99,32 @@ module _
       unfolding Component-judged
       passes h = rw (number, ← self-arc, h, counted)
 
--- What the contract asks for is `known`: a system, its symbols, a component of it; that it is stored, that the component fits, where
--- it stands, and that it has no weighting. The record of its pair is there, and names a rule.
+-- the record of its pair is there, and names a rule
 next-within : (c : tie.Start) → c .args .at + 1 < length (c .args .certificate .now) / 8
-next-within c = let known = c .pre .3 in its-record (known .3) (known .4) (known .5) (known .6) .0
+next-within c = its-record (c .pre) .0
 
 abbrev start : tie.After-record-at → tie.Start
 start c = c .before .before .before .before
 
 its-rule : (c : tie.After-record-at) → c .record-at .result .a < start c .args .rules
-its-rule c =
-    let known = start c .pre .3 in
-    in-rules (known .3) (known .4) (known .5) (known .6) (c .record-at .ensures)
+its-rule c = in-rules (start c .pre) (c .record-at .ensures)
 
 requires : tie.Need-arc-from-requires
 requires c κs =
     let read = c .before .before .before .before .before in
-    let kept = start read .pre .2 in
-    let known = start read .pre .3 in (
-      kept .arities-long,
-      kept .laid .starts-long,
-      kept .flags-long,
-      omega (arith, kept .nodes-long),
-      asked (known .3) (known .4) (known .5) (known .6) (read .record-at .ensures),
-    )
+    asked (start read .pre) (read .record-at .ensures)
 
 returns : tie.Need-returns
 returns c =
     let answered = c .before in
     let read = answered .before .before .before .before .before .before in
-    λ p symbols d s fits here none. refuses s fits here none (read .record-at .ensures) (answered .arc-from .ensures) (c .if1 .taken)
+    λ a. refuses a (read .record-at .ensures) (answered .arc-from .ensures) (c .if1 .taken)
 
 returns-2 : tie.Need-returns-2
 returns-2 c =
     let answered = c .before in
     let read = answered .before .before .before .before .before .before in
-    λ p symbols d s fits here none. passes s fits here none (read .record-at .ensures) (answered .arc-from .ensures) (c .if1 .left)
+    λ a. passes a (read .record-at .ensures) (answered .arc-from .ensures) (c .if1 .left)
 
 pub unweighted-spec : {M : Type 1} → statement M
 unweighted-spec =

@@ -1,135 +1,122 @@
 -- `checker::component::weighted` meets its contract: under the weights of the component before, the rules hold as they did; under
 -- others the table is filled anew and all rules are judged by it.
-use Prim.Native.Nat.{_/_, _≤_, _<_}
+use mathlib.Core.Path.{_≡_, refl, sym, _∙_}
+use mathlib.Core.List.{List, []}
+use Prim.Native.Nat.{ℕ, _+_, _/_, _≤_, _<_}
 use native.Mathlib.Omega.{arith}
+use borrow.Author.Needs.{needs}
 use lib.ListN.{length}
-use mathlib.Core.List.{[]}
-use Rattle.weights.specs.declared.Verdict.the-variants.{Holds}
-use Rattle.checker.specs.Working.{rules-verdict}
-use Rattle.checker.proofs.Verdicts.{not-over}
-use Rattle.checker.proofs.Positions.{pairs-here}
-use Rattle.checker.proofs.Known.{only-weighting, small, weights-there, still-held, still-hold, marked-there, judged, known-now}
+use Rattle.records.specs.declared.Refusal.the-variants.{Heavy}
+use Rattle.polynomials.specs.Polynomials.{Weighting}
+use Rattle.weights.specs.Table.{Table-is}
+use Rattle.checker.specs.Working.{is-over, rules-verdict, Weights-held, Weights-agree, Same-weights, Weighted-asked}
+use Rattle.checker.proofs.Known.{its-weighting, small, weights-there, still-held, still-hold, calls-there, judged-over, refused-unknown, judged, known-now}
 use Rattle.checker.proofs.component.weighted.Statement.{statement}
 use Rattle.checker.proofs.component.weighted.Tie as tie
 
-abbrev start : tie.After-shared-slice-known3 → tie.Start
-start c = c .before .before .before
+abbrev start : tie.After-shared-slice-known2 → tie.Start
+start c = c .before .before
 
--- What the contract asks for is `known`: a system, its symbols, a component of it; that it is stored, that the component fits, where
--- it stands, what is known of the rules, that it has one weighting, and its count of pairs.
 small-there : (c : tie.Start) → (c .args .at < length (c .args .certificate .now) / 8) × (c .args .count ≤ 2048)
-small-there c =
-    let known = c .pre .4 in
-    small (known .4) (known .5) (only-weighting (known .2 .weightings) (known .7) .1) (known .8)
+small-there c = small (c .pre)
 
 -- under the weights before
-judge-marked-requires : tie.Need-judge-marked-requires
-judge-marked-requires c κs =
+module _
+    {cert : List ℕ} {at count before rules after : ℕ} {ar ss ns table : List ℕ} (a : Weighted-asked cert at count before rules ar ss ns table)
+    (told : Weights-agree cert before (at + 1 + count) after) where
+  held : Weights-held (a .asked .kept .system) cert before table
+  held = a .known .some (told .earlier)
+
+  run : Same-weights (held .weights) (its-weighting a .weights) (at + 1 + count) after
+  run = told .agree (held .weights) (its-weighting a .weights) (held .stand) (weights-there a)
+
+judge-calls-requires : tie.Need-judge-calls-requires
+judge-calls-requires c κs =
     let same = c .before in
-    let s = start (same .before .before) in
-    let known = s .pre .4 in
-    let only = only-weighting (known .2 .weightings) (known .7) in
+    let a = start (same .before .before) .pre in
     let told = same .before .same-weights .ensures (same .if1 .taken) in
-    let held = known .6 .some (told .0) in
-    let run = told .1 (held .weights) (only .0 .weights) (held .stand) (weights-there (known .4) (known .5) (only .1) (known .8)) in (
-      s .pre .0,
-      s .pre .1,
-      s .pre .2,
-      s .pre .3,
-      (
-        known .0,
-        known .1,
-        known .2 .pairs,
-        only .0 .marked,
-        known .3,
-        known .4 .are-pairs,
-        pairs-here _ _ _ (known .5),
-        known .8,
-        marked-there (known .4) (known .5) (only .1) (known .8) (run .passed),
-      ),
-    )
+    calls-there a (run a told .passed) (a .unmarked)
 
 returns : tie.Need-returns
-unfolding rules-verdict
+unfolding is-over
 returns c =
-    let called = c .judge-marked .ensures in
+    let called = c .judge-calls .ensures in
     let same = c .before .before in
-    let told = same .before .same-weights .ensures (same .if1 .taken) in (
-      called .0,
-      λ p symbols d s fits here known one long.
-          let only = only-weighting (d .weightings) one in
-          let there = weights-there fits here (only .1) long in
-          let held = known .some (told .0) in
-          let run = told .1 (held .weights) (only .0 .weights) (held .stand) there in
-          let table = still-held held (run .same) in
-          let rules = still-hold held (run .same) (only .0 .marked) in
-          let marked = marked-there fits here (only .1) long (run .passed) in (
-            judged fits here (only .1) long (run .passed) rules _
-                (called .2 p symbols (d .pairs) (only .0 .weights) (only .0 .marked) s (fits .are-pairs) (pairs-here _ _ _ here) long marked table (λ h. not-over Holds _ _ rules h)),
-            known-now fits here (only .1) long (run .passed) _ (called .1 (only .0 .weights) table),
-          ),
-    )
+    let told = same .before .same-weights .ensures (same .if1 .taken) in
+    record {
+      unmarked = called .unmarked;
+      judged = λ a.
+          let r = run a told in
+          judged a (r .passed) (still-hold (held a told) (r .same) (its-weighting a .marked)) (still-held (held a told) (r .same)) _ called refl;
+      known = λ a.
+          let r = run a told in
+          known-now a (r .passed) (still-hold (held a told) (r .same) (its-weighting a .marked)) (still-held (held a told) (r .same)) _ called;
+    }
 
 -- under others
 refill-requires : tie.Need-refill-requires
 refill-requires c κs =
-    let s = start (c .before .before .before) in
-    let known = s .pre .4 in
-    let only = only-weighting (known .2 .weightings) (known .7) in (
-      s .pre .0,
-      s .pre .1,
-      (only .0 .weights, weights-there (known .4) (known .5) (only .1) (known .8)),
-      known .6 .none,
-      λ h. let held = known .6 .some h in (held .weights, held .stand, held .kept),
-    )
+    let a = start (c .before .before .before) .pre in
+    record {
+      file = a .there .file;
+      weights = its-weighting a .weights;
+      stand = weights-there a;
+      none = a .known .none;
+      some = λ h. let held = a .known .some h in record { weights = held .weights; stand = held .stand; kept = held .kept };
+    }
 
-judge-rules-requires : tie.Need-judge-rules-requires
-judge-rules-requires c κs =
-    let s = start (c .before .before .before .before .before) in
-    let known = s .pre .4 in
-    (s .pre .2, (known .0, known .1, known .3))
+-- the verdict on all rules under them, and where it was found
+abbrev refilled : tie.After-judge-rules → tie.After-refill
+refilled c = c .before .before
 
-judge-marked-requires-2 : tie.Need-judge-marked-requires-2
-judge-marked-requires-2 c κs =
-    let filled = c .before .before .before in
-    let s = start (filled .before .before .before .before) in
-    let known = s .pre .4 in
-    let only = only-weighting (known .2 .weightings) (known .7) in
-    let table = filled .refill .ensures .0 (only .0 .weights) (weights-there (known .4) (known .5) (only .1) (known .8)) in (
-      s .pre .0,
-      s .pre .1,
-      s .pre .2,
-      filled .refill .ensures .1 [] (s .pre .3),
-      (
-        known .0,
-        known .1,
-        known .2 .pairs,
-        only .0 .marked,
-        known .3,
-        known .4 .are-pairs,
-        pairs-here _ _ _ (known .5),
-        known .8,
-        marked-there (known .4) (known .5) (only .1) (known .8) (table .0),
-      ),
-    )
+abbrev begin : tie.After-judge-rules → tie.Start
+begin c = start (refilled c .before .before .before .before)
+
+abbrev Asked : tie.Start → Type 0
+Asked s =
+    Weighted-asked (s .args .certificate .now) (s .args .at) (s .args .count) (s .args .before) (s .args .rules) (s .args .arities .now) (s .args .starts .now) (s .args .nodes .now) (s .args .table .now)
+
+module _ (c : tie.After-judge-rules) (a : Asked (begin c)) where
+  abbrev w : Weighting
+  w = its-weighting a
+
+  holds : Table-is (refilled c .refill .last .1 .1 .1 .0) (w .weights)
+  holds = refilled c .refill .ensures .holds (w .weights) (weights-there a)
+
+  ends : refilled c .refill .result ≡ begin c .args .at + 1 + begin c .args .count + length (w .weights)
+  ends = refilled c .refill .ensures .ends (w .weights) (weights-there a)
+
+  rules-are : c .judge-rules .result ≡ rules-verdict (a .asked .kept .system) (w .weights) (w .marked)
+  rules-are = c .judge-rules .ensures (a .asked) (w .weights) (w .marked) holds
 
 returns-2 : tie.Need-returns-2
-unfolding rules-verdict
 returns-2 c =
-    let called = c .judge-marked2 .ensures in
-    let rules-judged = c .before .before in
-    let filled = rules-judged .before .before in (
-      called .0,
-      λ p symbols d s fits here known one long.
-          let only = only-weighting (d .weightings) one in
-          let table = filled .refill .ensures .0 (only .0 .weights) (weights-there fits here (only .1) long) in
-          let rules = rules-judged .judge-rules .ensures p symbols (only .0 .weights) (only .0 .marked) s (table .1) in
-          let marked = marked-there fits here (only .1) long (table .0) in (
-            judged fits here (only .1) long (table .0) rules _
-                (called .2 p symbols (d .pairs) (only .0 .weights) (only .0 .marked) s (fits .are-pairs) (pairs-here _ _ _ here) long marked (table .1) (λ h. not-over _ _ _ rules h)),
-            known-now fits here (only .1) long (table .0) _ (called .1 (only .0 .weights) (table .1)),
-          ),
-    )
+    let tested = c .before in
+    let judging = tested .before in
+    let over = sym (tested .is-over .ensures) ∙ c .if2 .taken in
+    record {
+      unmarked = refilled judging .refill .ensures .marked-stay [] (begin judging .pre .unmarked);
+      judged = λ a. judged-over a (ends judging a) (rules-are judging a) over;
+      known = λ a. refused-unknown _ _ _ Heavy (judged-over a (ends judging a) (rules-are judging a) over) _ _ _;
+    }
+
+judge-calls-requires-2 : tie.Need-judge-calls-requires-2
+judge-calls-requires-2 c κs =
+    let judging = c .before .before .before in
+    let a = begin judging .pre in
+    calls-there a (ends judging a) (refilled judging .refill .ensures .marked-stay [] (a .unmarked))
+
+returns-3 : tie.Need-returns-3
+returns-3 c =
+    let called = c .judge-calls2 .ensures in
+    let tested = c .before .before in
+    let judging = tested .before .before in
+    let none = sym (tested .before .is-over .ensures) ∙ tested .if2 .left in
+    record {
+      unmarked = called .unmarked;
+      judged = λ a. judged a (ends judging a) (rules-are judging a) (holds judging a) _ called none;
+      known = λ a. known-now a (ends judging a) (rules-are judging a) (holds judging a) _ called;
+    }
 
 pub weighted-spec : {M : Type 1} → statement M
 weighted-spec =
@@ -137,12 +124,14 @@ weighted-spec =
     (tie.spec
     (λ c. omega (arith, small-there (start c)))
     (λ c. omega (arith, small-there (start c)))
-    (λ c κs. omega (arith, start c .pre .4 .6 .behind))
+    (λ c κs. omega (arith, start c .pre .known .behind))
     (λ c. omega (arith, small-there (start (c .before .before))))
-    judge-marked-requires
+    judge-calls-requires
     returns
     refill-requires
-    judge-rules-requires
-    (λ c. omega (arith, small-there (start (c .before .before .before .before .before .before))))
-    judge-marked-requires-2
-    returns-2)
+    (λ c κs. start (c .before .before .before .before .before) .pre .asked)
+    (λ c κs. search needs)
+    returns-2
+    (λ c. omega (arith, small-there (begin (c .before .before))))
+    judge-calls-requires-2
+    returns-3)

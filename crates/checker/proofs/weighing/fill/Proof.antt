@@ -11,7 +11,7 @@ use Rattle.records.specs.declared.Record.{Record}
 use Rattle.records.specs.Records.{record-at}
 use Rattle.polynomials.specs.Polynomials.{Weight}
 use Rattle.weights.specs.Table.{Cells-are}
-use Rattle.checker.specs.Working.{Weights-at, own-base, Others-stay}
+use Rattle.checker.specs.Working.{Weights-at, own-base, Others-stay, Filled}
 use Rattle.checker.proofs.Tables.{In-table, Rise, bases-small, others-stay, one-filled}
 use Rattle.checker.proofs.Runs.{Goes-on, fillable-small, none-at-end, none-at-other, goes-on}
 use Rattle.checker.proofs.weighing.fill.Statement.{statement}
@@ -79,17 +79,23 @@ module _ {cert : List ℕ} {from kind : ℕ} {ws : List Weight} (a : Weights-at 
             filled = rw (g .is) (one-filled (own-base kind) (bases-small kind .0) table (s .done) (g .first) (g .others) (s .filled) rise small next-small);
           }
 
+answer :
+    {cert before after : List ℕ} {from kind r : ℕ} →
+    ((ws : List Weight) → Weights-at cert from kind ws → (r ≡ from + length ws) × Cells-are (own-base kind) after ws) → Others-stay kind before after →
+    Filled cert from kind before after r
+answer found others = record { ends = λ ws a. found ws a .0; holds = λ ws a. found ws a .1; others = others }
+
 -- in a turn the record of the kind has a cell, since it is that of one of the weights that the contract asks for
 in-table : (c : tie.Else1 Inv-loop μ-loop) → (c .before .before .record-at .result .a < 64) × (c .before .before .record-at .result .b ≤ 8)
 in-table c =
     let read = c .before .before in
-    let asked = read .before .before .before .before .pre .3 .1 in
-    let s = read .before .before .loop .inv .0 _ asked in
-    next-in-table asked s (goes-on (s .stand) (read .before .loop-test .taken) (read .record-at .ensures) (c .if1 .left))
+    let asked = read .before .before .before .before .pre in
+    let s = read .before .before .loop .inv .0 (asked .weights) (asked .stand) in
+    next-in-table (asked .stand) s (goes-on (s .stand) (read .before .loop-test .taken) (read .record-at .ensures) (c .if1 .left))
 
 holds : tie.Need-loop-holds Inv-loop μ-loop
 unfolding Others-stay
-holds c = (λ ws a. at-first a (c .before .pre .2), λ vs h. h)
+holds c = (λ ws a. at-first a (c .before .pre .empty), λ vs h. h)
 
 again : tie.Need-loop-again Inv-loop μ-loop
 unfolding Others-stay
@@ -121,9 +127,9 @@ fill-spec =
     (λ c.
     let read = c .before .before in
     let l = read .before .before .loop in
-    (λ ws a. at-other a (l .inv .0 ws a) (read .before .loop-test .taken) (read .record-at .ensures) (c .if1 .taken), l .inv .1))
+    answer (λ ws a. at-other a (l .inv .0 ws a) (read .before .loop-test .taken) (read .record-at .ensures) (c .if1 .taken)) (l .inv .1))
     (λ c κs. in-table (c .before))
     (λ c. omega arith)
     (λ c. omega arith)
     again
-    (λ c. let l = c .before .loop in (λ ws a. at-end a (l .inv .0 ws a) (c .loop-test .left), l .inv .1)))
+    (λ c. let l = c .before .loop in answer (λ ws a. at-end a (l .inv .0 ws a) (c .loop-test .left)) (l .inv .1)))

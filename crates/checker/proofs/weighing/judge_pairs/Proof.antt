@@ -14,21 +14,20 @@ use Rattle.rewriting.specs.Terms.{System}
 use Rattle.rewriting.specs.Pairs.{Pair, is-pair, arguments}
 use Rattle.records.specs.declared.Record.{Record}
 use Rattle.records.specs.Records.{record-at}
-use Rattle.pack_reader.specs.Stored.{Stored}
 use Rattle.pairs.specs.Listing.{a-pair, pair-record}
 use Rattle.weights.specs.declared.Verdict.{Verdict}
 use Rattle.weights.specs.declared.Verdict.the-variants.{Over, Fails, Holds}
 use Rattle.polynomials.specs.Polynomials.{Weight, Weighting}
 use Rattle.polynomials.specs.Limit.{over}
-use Rattle.polynomials.specs.Judging.{any, rule-over, call-over, call-falls}
+use Rattle.polynomials.specs.Judging.{call-over, call-falls}
 use Rattle.weights.specs.Table.{Table-is, Marked-is}
 use Rattle.weights.specs.Working.{Applied, Side-summed, verdict}
 use Rattle.judging.specs.Judge.{call, calls}
 use Rattle.partition.specs.Working.{All-pairs}
-use Rattle.checker.specs.Working.{Pairs-at}
+use Rattle.checker.specs.Working.{rules-over, calls-verdict, Pairs-asked}
 use Rattle.checker.proofs.FromStore.{weighting, sides-rise, pair-in-rules, right-fits, left-applied, right-applied, call-answer}
 use Rattle.checker.proofs.Positions.{pair-here}
-use Rattle.checker.proofs.Verdicts.{To-judge, Found, calls-hold, calls-asked, none-judged, some-failed, none-failed, one-over, one-fails, one-holds}
+use Rattle.checker.proofs.Verdicts.{To-judge, calls-hold, calls-asked, none-judged, some-failed, none-failed, one-over, one-fails, one-holds}
 use Rattle.checker.proofs.weighing.judge_pairs.Statement.{statement}
 use Rattle.checker.proofs.weighing.judge_pairs.Tie as tie
 
@@ -48,52 +47,62 @@ kept-as :
 kept-as ar ns ts ss e f k = rw (e, f) k
 
 abbrev Inv-loop : tie.InvT-loop
-Inv-loop certificate from count arities table starts nodes flags rules sums₀ last₀ failed₀ i₀ sums last failed i =
+Inv-loop certificate from count arities table starts nodes rules sums₀ last₀ failed₀ i₀ sums last failed i =
     (i ≤ count)
     × Left-kept arities nodes table starts last sums
-    × ((p : System) (symbols : ℕ) (qs : List Pair) (ws vs : List Weight) → Stored p symbols rules arities starts nodes flags → All-pairs p qs →
-    Pairs-at certificate from qs → length qs ≡ count → Table-is table ws → Marked-is table vs →
-    any (rule-over (weighting ws vs)) (p .rules) ≡ false → Pairs-left p qs ws vs i failed)
+    × ((a : Pairs-asked certificate from count rules arities starts nodes) (ws vs : List Weight) → Table-is table ws → Marked-is table vs →
+    rules-over (a .asked .kept .system) ws vs ≡ false → Pairs-left (a .asked .kept .system) (a .pairs) ws vs i failed)
 
 abbrev μ-loop : tie.MeasureT-loop
-μ-loop certificate from count arities table starts nodes flags rules sums₀ last₀ failed₀ i₀ sums last failed i = count - i
+μ-loop certificate from count arities table starts nodes rules sums₀ last₀ failed₀ i₀ sums last failed i = count - i
 
--- the record of pair i
-module _ {cert : List ℕ} {from : ℕ} {qs : List Pair} (there : Pairs-at cert from qs) (i : ℕ) (h : i < length qs) where
-  abbrev q : Pair
-  q = getD qs i (a-pair 0 0)
+module _ {cert : List ℕ} {from count rules : ℕ} {ar ss ns : List ℕ} (a : Pairs-asked cert from count rules ar ss ns) (i : ℕ) where
+  abbrev p : System
+  p = a .asked .kept .system
 
-  within : from + i < length cert / 8
-  within = pair-here cert from qs there i h .0
+  abbrev qs : List Pair
+  qs = a .pairs
 
-  module _ {r : Record} (read : r ≡ record-at cert (8 * (from + i))) where
-    reads-pair : r ≡ pair-record q
-    reads-pair = read ∙ pair-here cert from qs there i h .1
+  -- the record of pair i
+  module _ (h : i < count) where
+    abbrev q : Pair
+    q = getD qs i (a-pair 0 0)
 
-    module _ {p : System} {symbols rules : ℕ} {ar ss ns ms : List ℕ} (s : Stored p symbols rules ar ss ns ms) (are : All-pairs p qs) where
-      is : is-pair p q ≡ true
-      unfolding All-pairs
-      is = are i h
+    in-pairs : i < length qs
+    in-pairs = omega (arith, a .counted)
+
+    is : is-pair p q ≡ true
+    unfolding All-pairs
+    is = a .are-pairs i in-pairs
+
+    within : from + i < length cert / 8
+    within = pair-here cert from qs (a .stand) i in-pairs .0
+
+    module _ {r : Record} (read : r ≡ record-at cert (8 * (from + i))) where
+      reads-pair : r ≡ pair-record q
+      reads-pair = read ∙ pair-here cert from qs (a .stand) i in-pairs .1
 
       in-rules : r .a < rules
       unfolding pair-record
-      in-rules = rw reads-pair (pair-in-rules s q is)
+      in-rules = rw reads-pair (pair-in-rules (a .asked .kept .stored) q is)
 
       left-there : Applied ar ns (getD ss (2 * r .a) 0) (getD ss (2 * r .a + 1) 0 - getD ss (2 * r .a) 0)
       unfolding pair-record
-      left-there = rw reads-pair (left-applied s q is)
+      left-there = rw reads-pair (left-applied (a .asked .kept .stored) q is)
 
       right-there : Applied ar ns (getD ss (2 * r .a + 1) 0 + r .b) (getD ss (2 * r .a + 2) 0 - (getD ss (2 * r .a + 1) 0 + r .b))
       unfolding pair-record
-      right-there = rw reads-pair (right-applied s q is)
+      right-there = rw reads-pair (right-applied (a .asked .kept .stored) q is)
 
       -- where they begin and end
       sides-there : (getD ss (2 * r .a) 0 ≤ getD ss (2 * r .a + 1) 0) × (getD ss (2 * r .a + 1) 0 + r .b ≤ getD ss (2 * r .a + 2) 0)
       unfolding pair-record
-      sides-there = rw reads-pair (sides-rise s (q .at-rule) (pair-in-rules s q is) .0, right-fits s q is)
+      sides-there =
+          let s = a .asked .kept .stored in
+          rw reads-pair (sides-rise s (q .at-rule) (pair-in-rules s q is) .0, right-fits s q is)
 
       -- the pair is judged
-      module _ (ws vs : List Weight) (none : any (rule-over (weighting ws vs)) (p .rules) ≡ false) {x : Verdict}
+      module _ (ws vs : List Weight) (none : rules-over p ws vs ≡ false) {x : Verdict}
           (answer :
           (l : Applied ar ns (getD ss (2 * r .a) 0) (getD ss (2 * r .a + 1) 0 - getD ss (2 * r .a) 0))
           (m : Applied ar ns (getD ss (2 * r .a + 1) 0 + r .b) (getD ss (2 * r .a + 2) 0 - (getD ss (2 * r .a + 1) 0 + r .b))) →
@@ -104,14 +113,15 @@ module _ {cert : List ℕ} {from : ℕ} {qs : List Pair} (there : Pairs-at cert 
 
         said : x ≡ verdict (call-over w (call p q)) (call-falls w (call p q))
         unfolding pair-record
-        said = call-answer s q is ws vs none (rw reads-pair at answer)
+        said = call-answer (a .asked .kept .stored) q is ws vs none (rw reads-pair at answer)
 
         module _ {failed : Bool} (left : Pairs-left p qs ws vs i failed) where
           pair-left : To-judge (call-over w) (calls-hold w) (calls p qs) (call p q ∷ calls p (drop (i + 1) qs)) failed
           unfolding calls
-          pair-left = rw add-one (rw (drop-cons qs i (a-pair 0 0) h) at left)
+          pair-left = rw add-one (rw (drop-cons qs i (a-pair 0 0) in-pairs) at left)
 
-          pair-over-limit : x ≡ Over → Found (call-over w) (calls-hold w) (calls p qs) Over
+          pair-over-limit : x ≡ Over → Over ≡ calls-verdict p qs ws vs
+          unfolding calls-verdict
           pair-over-limit = one-over (calls-asked w) pair-left said
 
           pair-fails : x ≡ Fails → Pairs-left p qs ws vs (i + 1) true
@@ -120,35 +130,33 @@ module _ {cert : List ℕ} {from : ℕ} {qs : List Pair} (there : Pairs-at cert 
           pair-holds : x ≡ Holds → Pairs-left p qs ws vs (i + 1) failed
           pair-holds = one-holds (calls-asked w) pair-left said
 
--- at the end
-module _ (p : System) (qs : List Pair) (ws vs : List Weight) (i : ℕ) {failed : Bool} (left : Pairs-left p qs ws vs i failed) (h : length qs ≤ i) where
-  none-left : To-judge (call-over (weighting ws vs)) (calls-hold (weighting ws vs)) (calls p qs) [] failed
-  unfolding calls
-  none-left = rw (drop-of-length-le qs {i = i} h) at left
+  -- at the end
+  module _ (h : count ≤ i) (ws vs : List Weight) {failed : Bool} (left : Pairs-left p qs ws vs i failed) where
+    none-left : To-judge (call-over (weighting ws vs)) (calls-hold (weighting ws vs)) (calls p qs) [] failed
+    unfolding calls
+    none-left = rw (drop-of-length-le qs {i = i} (omega (arith, a .counted))) at left
 
-  fails : failed ≡ true → Found (call-over (weighting ws vs)) (calls-hold (weighting ws vs)) (calls p qs) Fails
-  fails = some-failed (calls-asked (weighting ws vs)) none-left
+    fails : failed ≡ true → Fails ≡ calls-verdict p qs ws vs
+    unfolding calls-verdict
+    fails = some-failed (calls-asked (weighting ws vs)) none-left
 
-  holds : failed ≡ false → Found (call-over (weighting ws vs)) (calls-hold (weighting ws vs)) (calls p qs) Holds
-  holds = none-failed (calls-asked (weighting ws vs)) none-left
+    holds : failed ≡ false → Holds ≡ calls-verdict p qs ws vs
+    unfolding calls-verdict
+    holds = none-failed (calls-asked (weighting ws vs)) none-left
 
 abbrev start : tie.In-loop Inv-loop μ-loop → tie.Start Inv-loop μ-loop
-start turn = turn .before .before .before .before .before
+start turn = turn .before .before .before .before
 
--- What the contract asks for is `known`: a system, its symbols, pairs; that the system is stored, that they are pairs of it, where they
--- stand, and their count. In a turn there is a pair i of them; its record is there, and names a rule.
-there-is : (turn : tie.In-loop Inv-loop μ-loop) → turn .before .loop .i < length (start turn .pre .3 .2)
-there-is turn = omega (arith, start turn .pre .3 .6, turn .loop-test .taken)
-
+-- in a turn the record of pair i is there, and names a rule
 its-record : (turn : tie.In-loop Inv-loop μ-loop) → start turn .args .from + turn .before .loop .i < length (start turn .args .certificate .now) / 8
-its-record turn = within (start turn .pre .3 .5) (turn .before .loop .i) (there-is turn)
+its-record turn = within (start turn .pre) (turn .before .loop .i) (turn .loop-test .taken)
 
 its-rule : (c : tie.After-record-at Inv-loop μ-loop) → (c .record-at .result .a < start (c .before) .args .rules) × (start (c .before) .args .rules ≤ 64) × (length (start (c .before) .args .starts .now) ≡ 129)
 its-rule c =
     let turn = c .before in
-    let pre = start turn .pre in
-    let known = pre .3 in
-    (in-rules (known .5) (turn .before .loop .i) (there-is turn) (c .record-at .ensures) (known .3) (known .4), pre .2 .laid .few, pre .2 .laid .starts-long)
+    let asked = start turn .pre in
+    let laid = asked .asked .kept .arrays .laid in
+    (in-rules asked (turn .before .loop .i) (turn .loop-test .taken) (c .record-at .ensures), laid .few, laid .starts-long)
 
 its-sides :
     (c : tie.After-record-at Inv-loop μ-loop) →
@@ -157,16 +165,14 @@ its-sides :
     (getD ss (2 * r .a) 0 ≤ getD ss (2 * r .a + 1) 0) × (getD ss (2 * r .a + 1) 0 + r .b ≤ getD ss (2 * r .a + 2) 0)
 its-sides c =
     let turn = c .before in
-    let known = start turn .pre .3 in
-    sides-there (known .5) (turn .before .loop .i) (there-is turn) (c .record-at .ensures) (known .3) (known .4)
+    sides-there (start turn .pre) (turn .before .loop .i) (turn .loop-test .taken) (c .record-at .ensures)
 
 left-requires : tie.Need-marked-side-requires Inv-loop μ-loop
 left-requires c κs =
     let read = c .before .before .before .before .before .before .before in
     let turn = read .before in
-    let pre = start turn .pre in
-    let known = pre .3 in
-    (pre .2 .nodes-long, left-there (known .5) (turn .before .loop .i) (there-is turn) (read .record-at .ensures) (known .3) (known .4), refl)
+    let asked = start turn .pre in
+    (asked .asked .kept .arrays .nodes-long, left-there asked (turn .before .loop .i) (turn .loop-test .taken) (read .record-at .ensures), refl)
 
 -- after the branch the left side of the pair's rule is kept: it was worked out, or it was kept
 abbrev read-before : tie.Joined1 Inv-loop μ-loop → tie.After-record-at Inv-loop μ-loop
@@ -197,9 +203,11 @@ requires c κs =
     let joined = c .before in
     let read = read-before joined in
     let turn = read .before in
-    let pre = start turn .pre in
-    let known = pre .3 in
-    (pre .2 .nodes-long, right-there (known .5) (turn .before .loop .i) (there-is turn) (read .record-at .ensures) (known .3) (known .4), left-kept joined .long)
+    let asked = start turn .pre in (
+      asked .asked .kept .arrays .nodes-long,
+      right-there asked (turn .before .loop .i) (turn .loop-test .taken) (read .record-at .ensures),
+      left-kept joined .long,
+    )
 
 returns : tie.Need-returns Inv-loop μ-loop
 returns c =
@@ -208,10 +216,10 @@ returns c =
     let read = read-before joined in
     let turn = read .before in
     let l = turn .before .loop in
-    λ p symbols qs ws vs s are there long t u none.
-    pair-over-limit there (l .i) (omega (arith, turn .loop-test .taken)) (read .record-at .ensures) s are ws vs none
-    (λ a b o m. called .judge-call .ensures _ _ a b ws vs (left-known joined) t u (λ _. (o, m)))
-    (l .inv .2 p symbols qs ws vs s are there long t u none)
+    λ a ws vs t u none.
+    pair-over-limit a (l .i) (turn .loop-test .taken) (read .record-at .ensures) ws vs none
+    (λ x y o m. called .judge-call .ensures _ _ x y ws vs (left-known joined) t u (λ _. (o, m)))
+    (l .inv .2 a ws vs t u none)
     (c .enum-told .given .1)
 
 add-i : tie.Need-add-i Inv-loop μ-loop
@@ -228,12 +236,12 @@ again c =
     let l = turn .before .loop in (
       omega arith,
       kept-as _ _ _ _ (last-is joined) refl (left-kept joined),
-      λ p symbols qs ws vs s are there long t u none.
-          let h : l .i < length qs = omega (arith, turn .loop-test .taken) in
-          let left = l .inv .2 p symbols qs ws vs s are there long t u none in
+      λ a ws vs t u none.
+          let h = turn .loop-test .taken in
+          let left = l .inv .2 a ws vs t u none in
           ⊎-elim
-          (λ z. rw (z .2) (pair-fails there (l .i) h (read .record-at .ensures) s are ws vs none (λ a b o m. called .judge-call .ensures _ _ a b ws vs (left-known joined) t u (λ _. (o, m))) left (z .1 .given .1)))
-          (λ z. rw (z .2) (pair-holds there (l .i) h (read .record-at .ensures) s are ws vs none (λ a b o m. called .judge-call .ensures _ _ a b ws vs (left-known joined) t u (λ _. (o, m))) left (z .1 .given .1)))
+          (λ z. rw (z .2) (pair-fails a (l .i) h (read .record-at .ensures) ws vs none (λ x y o m. called .judge-call .ensures _ _ x y ws vs (left-known joined) t u (λ _. (o, m))) left (z .1 .given .1)))
+          (λ z. rw (z .2) (pair-holds a (l .i) h (read .record-at .ensures) ws vs none (λ x y o m. called .judge-call .ensures _ _ x y ws vs (left-known joined) t u (λ _. (o, m))) left (z .1 .given .1)))
           (c .match .came),
     )
 
@@ -243,7 +251,7 @@ judge-pairs-spec =
     (tie.spec
     Inv-loop
     μ-loop
-    (λ c. (omega arith, record { long = refl; is-known = λ h. absurd (h refl) }, λ p symbols qs ws vs s are there long t u none. none-judged _ _ _))
+    (λ c. (omega arith, record { long = refl; is-known = λ h. absurd (h refl) }, λ a ws vs t u none. none-judged _ _ _))
     (λ c. omega (arith, its-record c))
     (λ c. omega (arith, its-record c))
     (λ c κs. omega (arith, its-record c))
@@ -251,19 +259,19 @@ judge-pairs-spec =
     (λ c. search needs)
     (λ c. search needs)
     (λ c. omega (arith, its-rule (c .before .before)))
-    (λ c. omega (arith, c .shared-slice-known4 .given (2 * c .before .before .record-at .result .a)))
+    (λ c. omega (arith, c .shared-slice-known3 .given (2 * c .before .before .record-at .result .a)))
     (λ c. omega (arith, its-rule (c .before .before)))
     (λ c. omega (arith, its-rule (c .before .before)))
     (λ c. omega (arith, its-rule (c .before .before)))
     (λ c. omega (arith, its-rule (c .before .before .before)))
-    (λ c. omega (arith, c .shared-slice-known5 .given (2 * c .before .before .before .record-at .result .a + 1)))
+    (λ c. omega (arith, c .shared-slice-known4 .given (2 * c .before .before .before .record-at .result .a + 1)))
     (λ c. omega (arith, its-rule (c .before .before .before)))
     (λ c. omega (arith, its-rule (c .before .before .before)))
     (λ c. omega (arith, its-rule (c .before .before .before)))
     (λ c. omega (arith, its-rule (c .before .before .before .before)))
-    (λ c. omega (arith, c .shared-slice-known6 .given (2 * c .before .before .before .before .record-at .result .a + 2)))
+    (λ c. omega (arith, c .shared-slice-known5 .given (2 * c .before .before .before .before .record-at .result .a + 2)))
     (λ c. search needs)
-    (λ c. omega (arith, c .before .before .shared-slice-known5 .given (2 * c .before .before .before .before .before .record-at .result .a + 1)))
+    (λ c. omega (arith, c .before .before .shared-slice-known4 .given (2 * c .before .before .before .before .before .record-at .result .a + 1)))
     (λ c. its-sides (c .before .before .before .before .before .before) .0)
     left-requires
     (λ c. its-sides (read-before c) .1)
@@ -275,11 +283,5 @@ judge-pairs-spec =
     add-i
     (λ c. omega arith)
     again
-    (λ c.
-    let l = c .before .before .loop in
-    λ p symbols qs ws vs s are there long t u none.
-    fails p qs ws vs (l .i) (l .inv .2 p symbols qs ws vs s are there long t u none) (omega (arith, c .before .loop-test .left)) (c .if2 .taken))
-    (λ c.
-    let l = c .before .before .loop in
-    λ p symbols qs ws vs s are there long t u none.
-    holds p qs ws vs (l .i) (l .inv .2 p symbols qs ws vs s are there long t u none) (omega (arith, c .before .loop-test .left)) (c .if2 .left)))
+    (λ c. let l = c .before .before .loop in λ a ws vs t u none. fails a (l .i) (c .before .loop-test .left) ws vs (l .inv .2 a ws vs t u none) (c .if2 .taken))
+    (λ c. let l = c .before .before .loop in λ a ws vs t u none. holds a (l .i) (c .before .loop-test .left) ws vs (l .inv .2 a ws vs t u none) (c .if2 .left)))

@@ -10,15 +10,15 @@ use borrow.Author.Needs.{needs}
 use lib.ListN.{getD, drop, drop-of-length-le}
 use lib.Seq.{drop-cons}
 use Rattle.rewriting.specs.Terms.{System, rule, no-rule}
-use Rattle.pack_reader.specs.Stored.{Stored}
 use Rattle.weights.specs.declared.Verdict.{Verdict}
 use Rattle.weights.specs.declared.Verdict.the-variants.{Over, Fails, Holds}
 use Rattle.polynomials.specs.Polynomials.{Weight, Weighting}
 use Rattle.polynomials.specs.Judging.{rule-over, rule-rises}
 use Rattle.weights.specs.Table.{Table-is}
 use Rattle.weights.specs.Working.{Weighable, verdict}
+use Rattle.checker.specs.Working.{rules-verdict, Rules-asked}
 use Rattle.checker.proofs.FromStore.{weighting, sides-rise, left-weighable, right-weighable, rule-answer}
-use Rattle.checker.proofs.Verdicts.{To-judge, Found, rules-hold, rules-asked, none-judged, some-failed, none-failed, one-over, one-fails, one-holds}
+use Rattle.checker.proofs.Verdicts.{To-judge, rules-hold, rules-asked, none-judged, some-failed, none-failed, one-over, one-fails, one-holds}
 use Rattle.checker.proofs.weighing.judge_rules.Statement.{statement}
 use Rattle.checker.proofs.weighing.judge_rules.Tie as tie
 
@@ -27,28 +27,33 @@ abbrev Rules-left : System → (weights marked : List Weight) → (i : ℕ) → 
 Rules-left p ws vs i failed = To-judge (rule-over (weighting ws vs)) (rules-hold (weighting ws vs)) (p .rules) (drop i (p .rules)) failed
 
 abbrev Inv-loop : tie.InvT-loop
-Inv-loop arities table starts nodes flags rules failed₀ i₀ failed i =
+Inv-loop arities table starts nodes rules failed₀ i₀ failed i =
     (i ≤ rules)
-    × ((p : System) (symbols : ℕ) (ws vs : List Weight) → Stored p symbols rules arities starts nodes flags → Table-is table ws → Rules-left p ws vs i failed)
+    × ((a : Rules-asked rules arities starts nodes) (ws vs : List Weight) → Table-is table ws → Rules-left (a .kept .system) ws vs i failed)
 
 abbrev μ-loop : tie.MeasureT-loop
-μ-loop arities table starts nodes flags rules failed₀ i₀ failed i = rules - i
+μ-loop arities table starts nodes rules failed₀ i₀ failed i = rules - i
 
 module _
-    {p : System} {symbols rules : ℕ} {ar ss ns ms : List ℕ} (s : Stored p symbols rules ar ss ns ms) (ws vs : List Weight) (i : ℕ) {failed : Bool}
-    (left : Rules-left p ws vs i failed) where
+    {rules : ℕ} {ar ss ns : List ℕ} (a : Rules-asked rules ar ss ns) (ws vs : List Weight) (i : ℕ) {failed : Bool}
+    (left : Rules-left (a .kept .system) ws vs i failed) where
+  abbrev p : System
+  p = a .kept .system
+
   abbrev w : Weighting
   w = weighting ws vs
 
   -- at the end
   module _ (h : rules ≤ i) where
     none-left : To-judge (rule-over w) (rules-hold w) (p .rules) [] failed
-    none-left = rw (drop-of-length-le (p .rules) {i = i} (omega (arith, s .rules-are))) at left
+    none-left = rw (drop-of-length-le (p .rules) {i = i} (omega (arith, a .kept .stored .rules-are))) at left
 
-    fails : failed ≡ true → Found (rule-over w) (rules-hold w) (p .rules) Fails
+    fails : failed ≡ true → Fails ≡ rules-verdict p ws vs
+    unfolding rules-verdict
     fails = some-failed (rules-asked w) none-left
 
-    holds : failed ≡ false → Found (rule-over w) (rules-hold w) (p .rules) Holds
+    holds : failed ≡ false → Holds ≡ rules-verdict p ws vs
+    unfolding rules-verdict
     holds = none-failed (rules-asked w) none-left
 
   -- rule i is judged
@@ -59,12 +64,13 @@ module _
       x ≡ verdict (rule-over w (record { left = l .term; right = m .term })) (not (rule-rises w (record { left = l .term; right = m .term })))) where
     rule-left : To-judge (rule-over w) (rules-hold w) (p .rules) (rule p i ∷ drop (i + 1) (p .rules)) failed
     unfolding rule
-    rule-left = rw add-one (rw (drop-cons (p .rules) i no-rule (omega (arith, s .rules-are))) at left)
+    rule-left = rw add-one (rw (drop-cons (p .rules) i no-rule (omega (arith, a .kept .stored .rules-are))) at left)
 
     is : x ≡ verdict (rule-over w (rule p i)) (not (rule-rises w (rule p i)))
-    is = rule-answer s i h ws vs answer
+    is = rule-answer (a .kept .stored) i h ws vs answer
 
-    rule-over-limit : x ≡ Over → Found (rule-over w) (rules-hold w) (p .rules) Over
+    rule-over-limit : x ≡ Over → Over ≡ rules-verdict p ws vs
+    unfolding rules-verdict
     rule-over-limit = one-over (rules-asked w) rule-left is
 
     rule-fails : x ≡ Fails → Rules-left p ws vs (i + 1) true
@@ -77,19 +83,19 @@ requires : tie.Need-judge-rule-requires Inv-loop μ-loop
 requires c κs =
     let turn = c .before .before .before in
     let i = turn .before .loop .i in
-    let start = turn .before .before .before .before in
-    let s = start .pre .1 .2 in
+    let kept = turn .before .before .before .pre .kept in
+    let s = kept .stored in
     let h = turn .loop-test .taken in
-    (start .pre .0 .nodes-long, sides-rise s i h .0, sides-rise s i h .1, left-weighable s i h, right-weighable s i h)
+    (kept .arrays .nodes-long, sides-rise s i h .0, sides-rise s i h .1, left-weighable s i h, right-weighable s i h)
 
 returns : tie.Need-returns Inv-loop μ-loop
 returns c =
     let called = c .before .before in
     let turn = called .before .before .before .before in
     let l = turn .before .loop in
-    λ p symbols ws vs s t.
-    rule-over-limit s ws vs (l .i) (l .inv .1 p symbols ws vs s t) (turn .loop-test .taken)
-    (λ a b. called .judge-rule .ensures a b ws vs t)
+    λ a ws vs t.
+    rule-over-limit a ws vs (l .i) (l .inv .1 a ws vs t) (turn .loop-test .taken)
+    (λ x y. called .judge-rule .ensures x y ws vs t)
     (c .enum-told .given .1)
 
 again : tie.Need-loop-again Inv-loop μ-loop
@@ -98,10 +104,12 @@ again c =
     let turn = called .before .before .before .before in
     let l = turn .before .loop in (
       omega arith,
-      λ p symbols ws vs s t.
+      λ a ws vs t.
+          let left = l .inv .1 a ws vs t in
+          let h = turn .loop-test .taken in
           ⊎-elim
-          (λ z. rw (z .2) (rule-fails s ws vs (l .i) (l .inv .1 p symbols ws vs s t) (turn .loop-test .taken) (λ a b. called .judge-rule .ensures a b ws vs t) (z .1 .given .1)))
-          (λ z. rw (z .2) (rule-holds s ws vs (l .i) (l .inv .1 p symbols ws vs s t) (turn .loop-test .taken) (λ a b. called .judge-rule .ensures a b ws vs t) (z .1 .given .1)))
+          (λ z. rw (z .2) (rule-fails a ws vs (l .i) left h (λ x y. called .judge-rule .ensures x y ws vs t) (z .1 .given .1)))
+          (λ z. rw (z .2) (rule-holds a ws vs (l .i) left h (λ x y. called .judge-rule .ensures x y ws vs t) (z .1 .given .1)))
           (c .match .came),
     )
 
@@ -111,21 +119,21 @@ judge-rules-spec =
     (tie.spec
     Inv-loop
     μ-loop
-    (λ c. (omega arith, λ p symbols ws vs s t. none-judged _ _ _))
-    (λ c. omega (arith, c .before .before .before .before .pre .0 .laid .few))
-    (λ c. omega (arith, c .before .before .before .before .pre .0 .laid .few))
-    (λ c. omega (arith, c .before .before .before .before .before .pre .0 .laid))
-    (λ c. omega (arith, c .shared-slice-known3 .given (2 * c .before .before .loop .i)))
-    (λ c. omega (arith, c .before .before .before .before .before .pre .0 .laid))
-    (λ c. omega (arith, c .before .before .before .before .before .pre .0 .laid))
-    (λ c. omega (arith, c .before .before .before .before .before .pre .0 .laid))
-    (λ c. omega (arith, c .before .before .before .before .before .before .pre .0 .laid))
-    (λ c. omega (arith, c .shared-slice-known4 .given (2 * c .before .before .before .loop .i + 1)))
-    (λ c. omega (arith, c .before .before .before .before .before .before .pre .0 .laid))
-    (λ c. omega (arith, c .before .before .before .before .before .before .pre .0 .laid))
-    (λ c. omega (arith, c .before .before .before .before .before .before .pre .0 .laid))
-    (λ c. omega (arith, c .before .before .before .before .before .before .before .pre .0 .laid))
-    (λ c. omega (arith, c .shared-slice-known5 .given (2 * c .before .before .before .before .loop .i + 2)))
+    (λ c. (omega arith, λ a ws vs t. none-judged _ _ _))
+    (λ c. omega (arith, c .before .before .before .pre .kept .arrays .laid .few))
+    (λ c. omega (arith, c .before .before .before .pre .kept .arrays .laid .few))
+    (λ c. omega (arith, c .before .before .before .before .pre .kept .arrays .laid))
+    (λ c. omega (arith, c .shared-slice-known2 .given (2 * c .before .before .loop .i)))
+    (λ c. omega (arith, c .before .before .before .before .pre .kept .arrays .laid))
+    (λ c. omega (arith, c .before .before .before .before .pre .kept .arrays .laid))
+    (λ c. omega (arith, c .before .before .before .before .pre .kept .arrays .laid))
+    (λ c. omega (arith, c .before .before .before .before .before .pre .kept .arrays .laid))
+    (λ c. omega (arith, c .shared-slice-known3 .given (2 * c .before .before .before .loop .i + 1)))
+    (λ c. omega (arith, c .before .before .before .before .before .pre .kept .arrays .laid))
+    (λ c. omega (arith, c .before .before .before .before .before .pre .kept .arrays .laid))
+    (λ c. omega (arith, c .before .before .before .before .before .pre .kept .arrays .laid))
+    (λ c. omega (arith, c .before .before .before .before .before .before .pre .kept .arrays .laid))
+    (λ c. omega (arith, c .shared-slice-known4 .given (2 * c .before .before .before .before .loop .i + 2)))
     requires
     (λ c. search needs)
     returns
@@ -134,5 +142,5 @@ judge-rules-spec =
     (λ c. omega arith)
     (λ c. omega arith)
     again
-    (λ c. let l = c .before .before .loop in λ p symbols ws vs s t. fails s ws vs (l .i) (l .inv .1 p symbols ws vs s t) (c .before .loop-test .left) (c .if1 .taken))
-    (λ c. let l = c .before .before .loop in λ p symbols ws vs s t. holds s ws vs (l .i) (l .inv .1 p symbols ws vs s t) (c .before .loop-test .left) (c .if1 .left)))
+    (λ c. let l = c .before .before .loop in λ a ws vs t. fails a ws vs (l .i) (l .inv .1 a ws vs t) (c .before .loop-test .left) (c .if1 .taken))
+    (λ c. let l = c .before .before .loop in λ a ws vs t. holds a ws vs (l .i) (l .inv .1 a ws vs t) (c .before .loop-test .left) (c .if1 .left)))

@@ -13,4 +13,4 @@ same-record-spec =
     (λ c e. absurd (true≢false (sym e)))
     (λ c e. absurd (true≢false (sym e)))
     (λ c e. absurd (true≢false (sym e)))
-    (λ c e. (omega arith, omega arith, omega arith, omega arith)))
+    (λ c e. record { kinds = omega arith; firsts = omega arith; seconds = omega arith; thirds = omega arith }))

@@ -2,7 +2,7 @@
 -- that are left of them are the same, so are all.
 use mathlib.Core.Path.{_≡_, refl, sym, ap, _∙_}
 use mathlib.Core.Bool.{Bool, true, false, not}
-use mathlib.Core.List.{List, [], _∷_}
+use mathlib.Core.List.{List, _∷_}
 use Prim.Native.Nat.{ℕ, _+_, _*_, _/_, _-_, _<_}
 use native.Mathlib.Omega.{arith}
 use borrow.Author.Needs.{needs}
@@ -11,7 +11,7 @@ use Rattle.records.specs.declared.Record.{Record}
 use Rattle.records.specs.Records.{a-record, record-at}
 use Rattle.records.specs.Order.{W-weight}
 use Rattle.polynomials.specs.Polynomials.{Weight}
-use Rattle.checker.specs.Working.{Weights-at, Same-weights}
+use Rattle.checker.specs.Working.{Weights-at, Same-weights, Same-record}
 use Rattle.checker.proofs.Runs.{Goes-on, none-at-other, goes-on}
 use Rattle.checker.proofs.weighing.same_weights.Statement.{statement}
 use Rattle.checker.proofs.weighing.same_weights.Tie as tie
@@ -37,12 +37,9 @@ at-first : {cert : List ℕ} {before from : ℕ} {vs ws : List Weight} → Weigh
     Alike cert from before from vs ws
 at-first {vs = vs} {ws = ws} a b = record { vs-left = vs; ws-left = ws; vs-stand = a; ws-stand = b; passed = refl; alike = λ e. e }
 
-abbrev Same-numbers : (x y : Record) → Type 0
-Same-numbers x y = (x .kind ≡ y .kind) × (x .a ≡ y .a) × (x .b ≡ y .b) × (x .c ≡ y .c)
-
 -- records with the same numbers are those of one weight
-same-weight : {kind : ℕ} (v w : Weight) → Same-numbers (a-record kind (v .symbol) (v .place) (v .value)) (a-record kind (w .symbol) (w .place) (w .value)) → v ≡ w
-same-weight v w e = λ i. record { symbol = e .1 i; place = e .2 i; value = e .3 i }
+same-weight : {kind : ℕ} (v w : Weight) → Same-record (a-record kind (v .symbol) (v .place) (v .value)) (a-record kind (w .symbol) (w .place) (w .value)) → v ≡ w
+same-weight v w e = λ i. record { symbol = e .firsts i; place = e .seconds i; value = e .thirds i }
 
 module _
     {cert : List ℕ} {from i at : ℕ} {vs ws : List Weight} (s : Alike cert from i at vs ws) (h : i < length cert / 8) (k : at < length cert / 8) {x y : Record}
@@ -54,8 +51,8 @@ module _
       let y-none = none-at-other (s .ws-stand) k y-read y-other in
       record { same = s .alike (x-none ∙ sym y-none); passed = omega (arith, s .passed, ap length y-none) }
 
-  both-go-on : x .kind ≡ W-weight → Same-numbers x y → Alike cert from (i + 1) (at + 1) vs ws
-  both-go-on is same = go (goes-on (s .vs-stand) h x-read is) (goes-on (s .ws-stand) k y-read (sym (same .0) ∙ is))
+  both-go-on : x .kind ≡ W-weight → Same-record x y → Alike cert from (i + 1) (at + 1) vs ws
+  both-go-on is same = go (goes-on (s .vs-stand) h x-read is) (goes-on (s .ws-stand) k y-read (sym (same .kinds) ∙ is))
     where
       go : Goes-on cert i W-weight x (s .vs-left) → Goes-on cert at W-weight y (s .ws-left) → Alike cert from (i + 1) (at + 1) vs ws
       go v w =
@@ -89,12 +86,13 @@ same-weights-spec =
     let y = c .before .before .before .before in
     let x = y .before in
     let l = x .before .before .loop in
-    let in-file = x .before .loop-test .taken in (
-      omega (arith, x .before .before .before .if1 .left),
-      λ vs ws a b.
+    let in-file = x .before .loop-test .taken in
+    record {
+      earlier = omega (arith, x .before .before .before .if1 .left);
+      agree = λ vs ws a b.
           both-end (l .inv .1 vs ws a b) (omega (arith, l .inv .0)) in-file (x .record-at .ensures) (y .record-at2 .ensures)
-          (c .before .before .if2 .taken) (c .if3 .taken),
-    ))
+          (c .before .before .if2 .taken) (c .if3 .taken);
+    })
     (λ c z. absurd (omega arith))
     (λ c κs. search needs)
     (λ c z. absurd (omega arith))

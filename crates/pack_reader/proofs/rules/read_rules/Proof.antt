@@ -212,7 +212,7 @@ read-rules-spec =
     (λ c. let f = told (c .before .before .before .before .before .before .before) in omega arith)
     (λ c. let f = told (c .before .before .before .before .before .before .before) in omega arith)
     (λ c. let f = told (c .before .before .before .before .before .before .before .before) in omega arith)
-    (λ c κs. let f = told (c .before .before .before .before .before .before .before .before) in omega arith)
+    (λ c κs. let f = told (c .before .before .before .before .before .before .before .before) in record { room = omega arith; middle-small = omega arith; end-small = omega arith })
     (λ c. let t = turn c in omega arith)
     (λ c. let t = turn c in omega arith)
     (λ c. let t = turn c in omega arith)

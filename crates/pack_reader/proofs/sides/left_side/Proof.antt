@@ -35,7 +35,7 @@ module _ (ns : List ℕ) (from i : ℕ) (sn : List Bool) (h : from ≤ i) (k : i
 first : tie.Need-loop-holds Inv-loop μ-loop
 first c = (
   (omega arith, omega arith, omega arith, refl),
-  (rw (c .pre .1), rw (c .pre .1, part-none _ (c .args .from) (c .args .from) (omega arith)) seen-none),
+  (rw (c .pre .none-seen), rw (c .pre .none-seen, part-none _ (c .args .from) (c .args .from) (omega arith)) seen-none),
 )
 
 returns : tie.Need-returns Inv-loop μ-loop
@@ -76,7 +76,7 @@ left-side-spec =
     Inv-loop
     μ-loop
     first
-    (λ c. omega (arith, ap length (c .before .before .before .pre .1)))
+    (λ c. omega (arith, ap length (c .before .before .before .pre .none-seen)))
     returns
     (λ c. omega arith)
     (λ c. omega (arith, c .shared-slice-known .given (c .before .before .before .loop .i)))
@@ -88,5 +88,5 @@ left-side-spec =
     (λ c. omega arith)
     (λ c. omega arith)
     again
-    (λ c. omega (arith, ap length (c .before .before .pre .1)))
+    (λ c. omega (arith, ap length (c .before .before .pre .none-seen)))
     returns-2)

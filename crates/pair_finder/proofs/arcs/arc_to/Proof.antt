@@ -14,28 +14,28 @@ no-root c a = sym (no-arc _ _ _ _ _ _ a (c .if1 .taken))
 asked : tie.Need-may-reach-requires
 asked c κs =
     let start = c .before .before .before .before .before .before .before .before in
-    (start .pre .0, start .pre .2, start .pre .3, to-walk _ _ _ _ _ _ (start .pre .5) (c .if1 .left) _ (start .pre .4))
+    to-walk _ _ _ _ _ _ (start .pre .asked) (c .if1 .left) _ (start .pre .ends)
 
 walked : tie.Need-returns-2
 walked c a =
     let start = c .before .before .before .before .before .before .before .before .before in
-    arc-walked _ _ _ _ _ _ a (c .before .if1 .left) _ (start .pre .4) _ (c .may-reach .ensures)
+    arc-walked _ _ _ _ _ _ a (c .before .if1 .left) _ (start .pre .ends) _ (c .may-reach .ensures)
 
 -- the two places lie within the nodes
 module _ (c : tie.Start) where
   right-within : c .args .right < length (c .args .nodes .now)
-  right-within = term-within _ _ _ (right-at _ _ _ _ _ _ (c .pre .5))
+  right-within = term-within _ _ _ (right-at _ _ _ _ _ _ (c .pre .asked))
 
   left-within : getD (c .args .starts .now) (2 * c .args .other) 0 < length (c .args .nodes .now)
-  left-within = term-within _ _ _ (left-at _ _ _ _ _ _ (c .pre .5))
+  left-within = term-within _ _ _ (left-at _ _ _ _ _ _ (c .pre .asked))
 
 pub arc-to-spec : {M : Type 1} → statement M
 arc-to-spec =
     tie.close
     (tie.spec
-    (λ c. omega (arith, other-small _ _ _ _ _ _ (c .before .before .before .before .pre .5)))
-    (λ c. omega (arith, other-small _ _ _ _ _ _ (c .before .before .before .before .pre .5)))
-    (λ c. omega (arith, other-small _ _ _ _ _ _ (c .before .before .before .before .before .pre .5)))
+    (λ c. omega (arith, other-small _ _ _ _ _ _ (c .before .before .before .before .pre .asked)))
+    (λ c. omega (arith, other-small _ _ _ _ _ _ (c .before .before .before .before .pre .asked)))
+    (λ c. omega (arith, other-small _ _ _ _ _ _ (c .before .before .before .before .before .pre .asked)))
     (λ c. omega (arith, c .shared-slice-known5 .given (2 * c .before .before .before .before .before .args .other)))
     (λ c. right-within (c .before .before .before .before .before .before))
     (λ c. left-within (c .before .before .before .before .before .before .before))

@@ -42,12 +42,12 @@ module _ (c : tie.In-loop Inv-loop μ-loop) where
   first : Term-at (c .before .before .before .before .before .args .arities .now) (c .before .before .before .before .before .args .nodes .now) (c .before .loop .i)
   first =
       let l = c .before .loop in
-      first-there _ _ _ _ _ _ _ (l .i) (l .k) (l .inv (c .before .before .before .before .before .pre .3)) (c .loop-test .taken)
+      first-there _ _ _ _ _ _ _ (l .i) (l .k) (l .inv (c .before .before .before .before .before .pre)) (c .loop-test .taken)
 
   other : Term-at (c .before .before .before .before .before .args .arities .now) (c .before .before .before .before .before .args .nodes .now) (c .before .loop .k)
   other =
       let l = c .before .loop in
-      other-there _ _ _ _ _ _ _ (l .i) (l .k) (l .inv (c .before .before .before .before .before .pre .3)) (c .loop-test .taken)
+      other-there _ _ _ _ _ _ _ (l .i) (l .k) (l .inv (c .before .before .before .before .before .pre)) (c .loop-test .taken)
 
 enters-both : tie.Need-loop-again Inv-loop μ-loop
 enters-both c w =
@@ -70,13 +70,13 @@ asked : tie.Need-skip-requires Inv-loop μ-loop
 asked c κs =
     let turn = c .before .before .before .before .before .before in
     let start = turn .before .before .before .before .before in
-    (start .pre .0, start .pre .2, first turn)
+    (start .pre .arities-long, start .pre .nodes-few, first turn)
 
 asked-2 : tie.Need-skip-requires-2 Inv-loop μ-loop
 asked-2 c κs =
     let turn = c .before .before .before .before .before .before .before in
     let start = turn .before .before .before .before .before in
-    (start .pre .0, start .pre .2, other turn)
+    (start .pre .arities-long, start .pre .others-few, other turn)
 
 later : tie.Need-loop-less-2 Inv-loop μ-loop
 later c =
