@@ -45,12 +45,14 @@ module _ (bs ds : List ℕ) where
   unfolding check
   check-whole h = cond-false 1 _ h
 
+  -- a pack that was read, and a certificate that has passed 1
+  pub check-then-read : (p : System) → length-bad certificates.most-certificate-bytes ds ≡ false → read-pack bs ≡ passed p → check bs ds ≡ check-read p (read-certificate p ds)
+  unfolding check-pack
+  check-then-read p k e = check-whole (or-both-false (pack-long bs p e) k) ∙ ap (λ (o : Outcome System). check-pack o ds) e
+
   pub check-of-read : (p : System) (cs : List Component) → read-pack bs ≡ passed p → read-certificate p ds ≡ passed cs → check bs ds ≡ judged p (plain p) cs
-  unfolding check-pack check-read
-  check-of-read p cs e f =
-      check-whole (or-both-false (pack-long bs p e) (certificate-long p ds cs f))
-      ∙ ap (λ (o : Outcome System). check-pack o ds) e
-      ∙ ap (λ (o : Outcome (List Component)). check-read p o) f
+  unfolding check-read
+  check-of-read p cs e f = check-then-read p (certificate-long p ds cs f) e ∙ ap (λ (o : Outcome (List Component)). check-read p o) f
 
   -- THE PACK'S REFUSAL, then the certificate's
   pub pack-first : (n : ℕ) → length-bad certificates.most-certificate-bytes ds ≡ false → read-pack bs ≡ refused n → check bs ds ≡ n

@@ -2,7 +2,7 @@
 use mathlib.Core.Path.{_≡_, refl, sym, ap, _∙_}
 use mathlib.Core.Bool.{true, false}
 use mathlib.Core.List.{List}
-use Prim.Native.Nat.{ℕ, _%_, _≤_, _<_}
+use Prim.Native.Nat.{ℕ, _%_, _<_}
 use native.Mathlib.Omega.{arith}
 use lib.Dec.{ltb}
 use lib.ListN.{length}
@@ -14,27 +14,28 @@ use Rattle.records.specs.declared.Answer.the-variants.{Passed, Refused}
 use Rattle.records.specs.Outcomes.{Outcome, refused, passed, refusal}
 use Rattle.records.specs.Records.{all-records, length-bad, all-bytes}
 use Rattle.records.specs.Order.{components-start}
+use Rattle.records.specs.Files.{Whole}
 use Rattle.records.specs.Answers.{number-of, answer-outcome}
 use Rattle.records.proofs.Outcomes.{number-some}
 use Rattle.pack_reader.specs.declared.Counts.{Counts}
 use Rattle.packs.specs.PackReading as packs
 use Rattle.packs.specs.PackReading.{read-pack}
 use Rattle.certificates.specs.Components.{Component}
-use Rattle.certificates.specs.CertificateReading as certificates
-use Rattle.certificates.specs.CertificateReading.{components-from}
+use Rattle.certificates.specs.CertificateReading.{most-certificate-bytes, components-from, read-certificate}
 use Rattle.certificates.proofs.Refusals.{length-tested}
-use Rattle.certificate_reader.specs.Working.{Certificate-read}
+use Rattle.certificate_reader.specs.Working.{Certificate-read, Reading-asked}
 use Rattle.judging.specs.Judges.{plain}
 use Rattle.judging.specs.Judge.{judged}
-use Rattle.judging.specs.Check.{check}
+use Rattle.judging.specs.Check.{check, check-read}
 use Rattle.partition.specs.Working.{Judgeable}
 use Rattle.checker.specs.Working.{Judged-as}
-use Rattle.judging.proofs.Checking.{check-cut, check-of-read, pack-first, then-certificate}
+use Rattle.judging.proofs.Checking.{check-cut, check-then-read, pack-first}
 use Rattle.promises.specs.Promises
 use Rattle.promises.proofs.Kept.{accepted-exactly, accepted-terminates}
 use Rattle.teldyzhom.specs.declared.Checked.{Checked}
 use Rattle.teldyzhom.specs.declared.Checked.the-variants.{Accepted, Refused as NotAccepted}
 use Rattle.teldyzhom.specs.Entries.{checked-number, Accepting}
+use Rattle.teldyzhom.specs.Kept.{Check-asked}
 use Rattle.teldyzhom.proofs.Entering.{Kept-as}
 
 -- WHAT ACCEPTING MEANS, in whatever words it is said
@@ -63,20 +64,20 @@ is-accepted Accepted e = refl
 is-accepted (NotAccepted x) e = absurd (omega (arith, number-some x))
 
 -- THE LENGTH of the certificate
-pub too-long : (bs ds : List ℕ) → 24576 < length ds → check bs ds ≡ 1
+pub too-long : (bs ds : List ℕ) → most-certificate-bytes < length ds → check bs ds ≡ 1
 unfolding length-bad
-too-long bs ds h = check-cut bs ds (or-right (length-bad packs.most-pack-bytes bs) (rw (lt-ltb 24576 (length ds) h)))
+too-long bs ds h = check-cut bs ds (or-right (length-bad packs.most-pack-bytes bs) (rw (lt-ltb most-certificate-bytes (length ds) h)))
 
 pub no-multiple : (bs ds : List ℕ) → (length ds % 8 ≡ 0 → ⊥) → check bs ds ≡ 1
 unfolding length-bad
-no-multiple bs ds h = check-cut bs ds (or-right (length-bad packs.most-pack-bytes bs) (or-right (ltb 24576 (length ds)) (rw (ne-eqb (length ds % 8) 0 h))))
+no-multiple bs ds h = check-cut bs ds (or-right (length-bad packs.most-pack-bytes bs) (or-right (ltb most-certificate-bytes (length ds)) (rw (ne-eqb (length ds % 8) 0 h))))
 
-pub length-good : (ds : List ℕ) → length ds ≤ 24576 → length ds % 8 ≡ 0 → length-bad certificates.most-certificate-bytes ds ≡ false
+pub length-good : (ds : List ℕ) → Whole most-certificate-bytes ds → length-bad most-certificate-bytes ds ≡ false
 unfolding length-bad
-length-good ds h k = rw (le-ltb 24576 (length ds) h, eq-eqb (length ds % 8) 0 k)
+length-good ds file = rw (le-ltb most-certificate-bytes (length ds) (file .short), eq-eqb (length ds % 8) 0 (file .whole))
 
 -- THE PACK refused
-pub pack-stops : (bs ds : List ℕ) (x : Refusal) → length-bad certificates.most-certificate-bytes ds ≡ false → read-pack bs ≡ refused (number-of x) → check bs ds ≡ number-of x
+pub pack-stops : (bs ds : List ℕ) (x : Refusal) → length-bad most-certificate-bytes ds ≡ false → read-pack bs ≡ refused (number-of x) → check bs ds ≡ number-of x
 pack-stops bs ds x k e = pack-first bs ds (number-of x) k e
 
 -- THE CERTIFICATE
@@ -104,25 +105,49 @@ certificate-found (passed cs) r n a h =
     let e : passed n ≡ passed (length cs) = sym (ap answer-outcome h) ∙ a in
     record { all = cs; is = refl; counted = cc }
 
-module _ (bs ds : List ℕ) (c : Counts) (ar ss ns ms : List ℕ) (k : Kept-as (read-pack bs) c ar ss ns ms) where
+-- A CERTIFICATE OF A PACK THAT IS KEPT
+module _ {ds : List ℕ} {symbols rules : ℕ} {ar ss ns ms : List ℕ} (a : Check-asked ds symbols rules ar ss ns ms) where
+  pub reading-asked : Reading-asked ds symbols rules ar ss ns ms
+  reading-asked = record { file = a .file; symbols-few = omega (arith, a .stored .symbols-are, a .stored .good .symbols); arrays = a .arrays }
+
   abbrev components-read : Outcome (List Component)
-  components-read = components-from (k .system) components-start (all-records ds)
+  components-read = components-from (a .system) components-start (all-records ds)
 
-  abbrev pub judgeable : (components : ℕ) → Found-as components-read components → Judgeable (k .system) ds components (c .rules) ar ss ns ms
-  judgeable components w = record { symbols = c .symbols; stored = k .stored; all = w .all; read = w .is; counted = w .counted }
+  read-is : read-certificate (a .system) ds ≡ components-read
+  read-is = length-tested (a .system) ds (length-good ds (a .file))
 
-  module _ (long : length-bad certificates.most-certificate-bytes ds ≡ false) where
-    pub certificate-stops : (x : Refusal) → components-read ≡ refused (number-of x) → check bs ds ≡ number-of x
-    certificate-stops x e = then-certificate bs ds (k .system) (number-of x) (k .is) (length-tested (k .system) ds long ∙ e)
+  -- what the check comes to from here
+  abbrev checks : ℕ
+  checks = check-read (a .system) (read-certificate (a .system) ds)
 
-    module _ (components : ℕ) (w : Found-as components-read components) where
-      check-is : check bs ds ≡ judged (k .system) (plain (k .system)) (w .all)
-      check-is = check-of-read bs ds (k .system) (w .all) (k .is) (length-tested (k .system) ds long ∙ w .is)
+  pub certificate-stops : (x : Refusal) → components-read ≡ refused (number-of x) → number-of x ≡ checks
+  unfolding check-read
+  certificate-stops x e = rw (read-is ∙ e)
 
-      pub judge-stops : (a : Answer) (x : Refusal) → Judged-as (judged (k .system) (plain (k .system)) (w .all)) a → a ≡ Refused x → check bs ds ≡ number-of x
-      unfolding Judged-as
-      judge-stops a x h e = check-is ∙ sym h ∙ ap (λ (y : Answer). refusal (answer-outcome y)) e
+  module _ (components : ℕ) (w : Found-as components-read components) where
+    abbrev pub judgeable : Judgeable ds components rules ar ss ns ms
+    judgeable =
+        record {
+          file = a .file;
+          kept = record { arrays = a .arrays; system = a .system; symbols = symbols; stored = a .stored };
+          all = w .all;
+          read = w .is;
+          counted = w .counted;
+        }
 
-      pub judge-passes : (a : Answer) (n : ℕ) → Judged-as (judged (k .system) (plain (k .system)) (w .all)) a → a ≡ Passed n → check bs ds ≡ 0
-      unfolding Judged-as
-      judge-passes a n h e = check-is ∙ sym h ∙ ap (λ (y : Answer). refusal (answer-outcome y)) e
+    is-judged : checks ≡ judged (a .system) (plain (a .system)) (w .all)
+    unfolding check-read
+    is-judged = rw (read-is ∙ w .is)
+
+    pub judge-stops : (r : Answer) (x : Refusal) → Judged-as (judged (a .system) (plain (a .system)) (w .all)) r → r ≡ Refused x → number-of x ≡ checks
+    unfolding Judged-as
+    judge-stops r x h e = sym (is-judged ∙ sym h ∙ ap (λ (y : Answer). refusal (answer-outcome y)) e)
+
+    pub judge-passes : (r : Answer) (n : ℕ) → Judged-as (judged (a .system) (plain (a .system)) (w .all)) r → r ≡ Passed n → 0 ≡ checks
+    unfolding Judged-as
+    judge-passes r n h e = sym (is-judged ∙ sym h ∙ ap (λ (y : Answer). refusal (answer-outcome y)) e)
+
+-- THE CHECK, of a pack that was read
+pub check-is : (bs ds : List ℕ) (c : Counts) (ar ss ns ms : List ℕ) (k : Kept-as (read-pack bs) c ar ss ns ms) → Whole most-certificate-bytes ds →
+    check-read (k .system) (read-certificate (k .system) ds) ≡ check bs ds
+check-is bs ds c ar ss ns ms k file = sym (check-then-read bs ds (k .system) (length-good ds file) (k .is))

@@ -19,14 +19,15 @@ use Rattle.pack_reader.specs.declared.Counts.{Counts}
 use Rattle.pack_reader.specs.declared.PackRead.{PackRead}
 use Rattle.pack_reader.specs.declared.PackRead.the-variants.{Read, Refused as PackRefused}
 use Rattle.packs.specs.PackReading.{read-pack}
-use Rattle.pack_reader.specs.Stored.{Stored, Pack-read}
-use Rattle.pairs.specs.declared.ArcAnswer.the-variants.{Yes, No, Refused as ArcRefused}
+use Rattle.pack_reader.specs.Stored.{Stored, Room, Pack-read}
+use Rattle.pairs.specs.declared.ArcAnswer.{ArcAnswer}
+use Rattle.pairs.specs.declared.ArcAnswer.the-variants.{Refused as ArcRefused}
 use Rattle.pairs.specs.Listing.{a-pair, pairs, pair-bytes}
 use Rattle.pairs.specs.Arcs.{arc}
 use Rattle.pairs.specs.Answers.{listing, buffer-after, arc-question}
 use Rattle.pairs.specs.Says.{count-outcome, Listed-as, Arc-as}
-use Rattle.pair_finder.specs.Walking.{first-pairs, Arc-asked, Place-answer}
-use Rattle.pair_finder.proofs.FromStore.{arc-any-place, stored-pairs}
+use Rattle.pair_finder.specs.Walking.{first-pairs, Arc-asked, Place-answer, Kept-pack, System-kept}
+use Rattle.pair_finder.proofs.FromStore.{arc-any-place, stored-laid, stored-pairs}
 
 -- THE PACK
 
@@ -56,6 +57,19 @@ pack-kept (passed p) r ar ss ns ms c a h =
     let e = a .1 in
     let g : a .0 ≡ c = cc in
     record { system = p; is = refl; stored = subst (λ (d : Counts). Stored p (d .symbols) (d .rules) ar ss ns ms) g (a .2) }
+
+-- the arrays in which it is kept, by what was lent for them
+pub arrays-kept : {o : Outcome System} {c : Counts} {ar ss ns ms : List ℕ} (k : Kept-as o c ar ss ns ms) → Room ar ss ns ms → Kept-pack (c .rules) ar ss ns ms
+arrays-kept k room =
+    record {
+      laid = stored-laid _ _ _ _ _ _ _ (k .stored) (room .starts-long);
+      arities-long = room .arities-long;
+      flags-long = room .flags-long;
+      nodes-long = omega (arith, room .nodes-long);
+    }
+
+abbrev pub system-kept : {o : Outcome System} {c : Counts} {ar ss ns ms : List ℕ} (k : Kept-as o c ar ss ns ms) → Room ar ss ns ms → System-kept (c .rules) ar ss ns ms
+system-kept k room = record { arrays = arrays-kept k room; system = k .system; symbols = _; stored = k .stored }
 
 -- THE LISTING
 
@@ -113,39 +127,34 @@ pair-rule : (p : System) (q : Pair) → is-pair p q ≡ true → q .at-rule < le
 unfolding is-pair
 pair-rule p q h = ltb-true _ _ (search (h, ands))
 
-module _ (bs : List ℕ) (c : Counts) (ar ss ns ms : List ℕ) (k : Kept-as (read-pack bs) c ar ss ns ms) (q r : Pair) where
-  pub first-missing : (x : Refusal) → (is-pair (k .system) q ≡ false) × (number-of x ≡ 7) → Arc-as (arc-question bs q r) (ArcRefused x)
+module _ {rules : ℕ} {ar ss ns ms : List ℕ} (k : System-kept rules ar ss ns ms) (q r : Pair) where
+  pub first-missing : (x : Refusal) → (is-pair (k .system) q ≡ false) × (number-of x ≡ 7) →
+      (bs : List ℕ) → read-pack bs ≡ passed (k .system) → Arc-as (arc-question bs q r) (ArcRefused x)
   unfolding Arc-as arc-question
-  first-missing x h = rw (k .is, h .0, h .1)
+  first-missing x h bs e = rw (e, h .0, h .1)
 
   module _ (m : ℕ) (first : (is-pair (k .system) q ≡ true) × (m ≡ getD ss (2 * q .at-rule + 1) 0 + q .place)) where
-    pub second-missing : (x : Refusal) → (is-pair (k .system) r ≡ false) × (number-of x ≡ 7) → Arc-as (arc-question bs q r) (ArcRefused x)
+    pub second-missing : (x : Refusal) → (is-pair (k .system) r ≡ false) × (number-of x ≡ 7) →
+        (bs : List ℕ) → read-pack bs ≡ passed (k .system) → Arc-as (arc-question bs q r) (ArcRefused x)
     unfolding Arc-as arc-question
-    second-missing x h = rw (k .is, first .0, h .0, h .1)
+    second-missing x h bs e = rw (e, first .0, h .0, h .1)
 
     module _ (second : is-pair (k .system) r ≡ true) where
       pub may-ask : Arc-asked ar ss ns ms m (r .at-rule)
       may-ask =
           record {
-            system = k .system;
-            symbols = c .symbols;
-            rules = c .rules;
-            stored = k .stored;
+            rules = rules;
+            kept = k;
             pair = q;
             is = first .0;
             at-right = first .1;
             other-rule = omega (arith, k .stored .rules-are, pair-rule (k .system) r second);
           }
 
-      module _ (b : Bool) (says : (a : Arc-asked ar ss ns ms m (r .at-rule)) → b ≡ arc (a .system) (a .pair) (a-pair (r .at-rule) 0)) where
-        is-arc : arc (k .system) q r ≡ b
-        unfolding may-ask
-        is-arc = arc-any-place (k .system) q (r .at-rule) (r .place) ∙ sym (says may-ask)
-
-        pub answers-yes : b ≡ true → Arc-as (arc-question bs q r) Yes
-        unfolding Arc-as arc-question
-        answers-yes e = rw (k .is, first .0, second, is-arc, e)
-
-        pub answers-no : b ≡ false → Arc-as (arc-question bs q r) No
-        unfolding Arc-as arc-question
-        answers-no e = rw (k .is, first .0, second, is-arc, e)
+      -- what was said of the arc is the answer
+      pub answers : (b : Bool) → ((a : Arc-asked ar ss ns ms m (r .at-rule)) → b ≡ arc (a .kept .system) (a .pair) (a-pair (r .at-rule) 0)) →
+          (x : ArcAnswer) → Arc-as (passed b) x → (bs : List ℕ) → read-pack bs ≡ passed (k .system) → Arc-as (arc-question bs q r) x
+      unfolding may-ask Arc-as arc-question
+      answers b says x said bs e =
+          let is-arc : arc (k .system) q r ≡ b = arc-any-place (k .system) q (r .at-rule) (r .place) ∙ sym (says may-ask) in
+          rw (e, first .0, second, is-arc) said

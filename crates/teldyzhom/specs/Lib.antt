@@ -1,2 +1,3 @@
 -- What the public entries answer.
 pub mod Entries
+pub mod Kept

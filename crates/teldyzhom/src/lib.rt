@@ -1,14 +1,15 @@
 // The loader's three entries: the check, the listing and the arc question; and the same as C functions.
 mod c;
+mod kept;
 
 use pack_reader::PackRead;
-use pack_reader::STARTS;
+use pack_reader::STARTS_ROOM;
 use pairs::ArcAnswer;
 use records::Answer;
 use records::MOST_CERTIFICATE_BYTES;
 use records::Refusal;
-use terms::MOST_NODES;
 use terms::MOST_SYMBOLS;
+use terms::NODES_ROOM;
 ghost use mathlib.Core.Path.{_≡_};
 ghost use lib.ListN.{length};
 ghost use Rattle.pairs.specs.Listing.{a-pair};
@@ -34,40 +35,20 @@ fn judge_files(pack: &[u8], certificate: &[u8]) -> Checked
         return Checked::Refused(Refusal::CutFile);
     }
     let mut arities = [0u8; MOST_SYMBOLS];
-    let mut starts = [0u16; STARTS];
-    let mut nodes = [0u8; MOST_NODES];
+    let mut starts = [0u16; STARTS_ROOM];
+    let mut nodes = [0u8; NODES_ROOM];
     let mut defined = [0u8; MOST_SYMBOLS];
     match pack_reader::read_pack(pack, &mut arities, &mut starts, &mut nodes, &mut defined) {
         PackRead::Refused(x) => Checked::Refused(x),
-        PackRead::Read(c) => {
-            let symbols = c.symbols;
-            let rules = c.rules;
-            match certificate_reader::read_components(
-                certificate,
-                symbols,
-                rules,
-                &arities,
-                &starts,
-                &nodes,
-                &defined,
-            ) {
-                Answer::Refused(x) => Checked::Refused(x),
-                Answer::Passed(components) => {
-                    match checker::judge(
-                        certificate,
-                        components,
-                        rules,
-                        &arities,
-                        &starts,
-                        &nodes,
-                        &defined,
-                    ) {
-                        Answer::Refused(x) => Checked::Refused(x),
-                        Answer::Passed(_) => Checked::Accepted,
-                    }
-                }
-            }
-        }
+        PackRead::Read(c) => kept::check_kept(
+            certificate,
+            c.symbols,
+            c.rules,
+            &arities,
+            &starts,
+            &nodes,
+            &defined,
+        ),
     }
 }
 
@@ -89,8 +70,8 @@ pub fn list_pairs(pack: &[u8], list: &mut [u8]) -> Answer
     ensures leaves { λ _. ⌜ now (list .exit) ≡ buffer-after (listing (now (pack .entry)) (length (now (list .entry)))) (now (list .entry)) ⌝ }
 {
     let mut arities = [0u8; MOST_SYMBOLS];
-    let mut starts = [0u16; STARTS];
-    let mut nodes = [0u8; MOST_NODES];
+    let mut starts = [0u16; STARTS_ROOM];
+    let mut nodes = [0u8; NODES_ROOM];
     let mut defined = [0u8; MOST_SYMBOLS];
     match pack_reader::read_pack(pack, &mut arities, &mut starts, &mut nodes, &mut defined) {
         PackRead::Refused(x) => Answer::Refused(x),
@@ -111,48 +92,21 @@ pub fn arc_runs(pack: &[u8], rule: u32, place: u32, other_rule: u32, other_place
     ensures { λ r. ⌜ Arc-as (arc-question (now (pack .entry)) (a-pair rule place) (a-pair «other_rule» «other_place»)) r ⌝ }
 {
     let mut arities = [0u8; MOST_SYMBOLS];
-    let mut starts = [0u16; STARTS];
-    let mut nodes = [0u8; MOST_NODES];
+    let mut starts = [0u16; STARTS_ROOM];
+    let mut nodes = [0u8; NODES_ROOM];
     let mut defined = [0u8; MOST_SYMBOLS];
     match pack_reader::read_pack(pack, &mut arities, &mut starts, &mut nodes, &mut defined) {
         PackRead::Refused(x) => ArcAnswer::Refused(x),
-        PackRead::Read(c) => {
-            let rules = c.rules;
-            match pair_finder::arcs::place_of(
-                &starts,
-                &nodes,
-                &defined,
-                rules,
-                rule as usize,
-                place as usize,
-            ) {
-                Answer::Refused(x) => ArcAnswer::Refused(x),
-                Answer::Passed(right) => {
-                    match pair_finder::arcs::place_of(
-                        &starts,
-                        &nodes,
-                        &defined,
-                        rules,
-                        other_rule as usize,
-                        other_place as usize,
-                    ) {
-                        Answer::Refused(x) => ArcAnswer::Refused(x),
-                        Answer::Passed(_) => {
-                            if pair_finder::arcs::arc_from(
-                                &arities,
-                                &starts,
-                                &nodes,
-                                &defined,
-                                right,
-                                other_rule as usize,
-                            ) {
-                                return ArcAnswer::Yes;
-                            }
-                            ArcAnswer::No
-                        }
-                    }
-                }
-            }
-        }
+        PackRead::Read(c) => kept::arc_kept(
+            rule as usize,
+            place as usize,
+            other_rule as usize,
+            other_place as usize,
+            c.rules,
+            &arities,
+            &starts,
+            &nodes,
+            &defined,
+        ),
     }
 }
