@@ -1,12 +1,12 @@
 // Only the features link static libraries; all else is std alone.
 fn main() {
     println!("cargo:rerun-if-changed=build.rs");
-    if has("BEFORE") {
-        // ./bench puts both there, alike placed.
-        link("target/before", "teldyzhom");
-        link("target/before", "before");
-    } else if has("LIBRARY") {
+    if has("LIBRARY") {
         link("../target/staticlib", "teldyzhom");
+    }
+    if has("BEFORE") {
+        // ./bench puts it there.
+        link("target/before", "placed");
     }
 }
 

@@ -76,10 +76,13 @@ pub fn all() -> Vec<Box<dyn Implementation>> {
     ]
 }
 
+/// The same code at one or several places.
+pub type Copies = Vec<Box<dyn Implementation>>;
+
 /// The library and then the one before, if both are linked.
-pub fn library_and_before() -> Option<Vec<Box<dyn Implementation>>> {
+pub fn library_and_before() -> Option<Vec<Copies>> {
     #[cfg(feature = "before")]
-    return Some(vec![Box::new(crate::library::LIBRARY), Box::new(crate::library::BEFORE)]);
+    return Some(crate::library::PLACED.map(|copies| copies.map(|one| Box::new(one) as _).into()).into());
     #[cfg(not(feature = "before"))]
     None
 }

@@ -20,7 +20,7 @@ pub struct Library {
 
 /// The library whose functions are linked by names that start so.
 macro_rules! linked {
-    ($name:literal, $prefix:literal) => {{
+    ($name:literal, $prefix:expr) => {{
         extern "C" {
             #[link_name = concat!($prefix, "teldyzhom_check")]
             fn check(pack: *const u8, pack_len: usize, certificate: *const u8, certificate_len: usize) -> u32;
@@ -43,9 +43,15 @@ macro_rules! linked {
 /// The one built from this tree.
 pub const LIBRARY: Library = linked!("library", "");
 
-/// The older one that `./bench --before` renamed.
+/// The copies that `./bench --before` makes, their functions so many bytes past the start of a page.
 #[cfg(feature = "before")]
-pub const BEFORE: Library = linked!("before", "before_");
+macro_rules! placed {
+    ($name:literal, $($at:literal)*) => { [$(linked!($name, concat!($name, $at, "_"))),*] };
+}
+
+/// The one built from this tree and the older one.
+#[cfg(feature = "before")]
+pub const PLACED: [[Library; 4]; 2] = [placed!("library", 0 16 32 48), placed!("before", 0 16 32 48)];
 
 impl Implementation for Library {
     fn name(&self) -> &'static str {

@@ -3,7 +3,8 @@
 //! Times differ from machine to machine, so no test should look at them: only ratios are printed.
 //! A busy machine spoils ratios too: run it twice and trust only what stays.
 //! `bench [rounds]`: more rounds, steadier ratios (20 by default).
-//! `bench --before [rounds]`: the same rows, of the library in times of an older one that `./bench --before` links.
+//! `bench --before [rounds]`: the same rows, of the library in times of an older one that `./bench --before` links,
+//! each summed over the copies of it.
 
 use std::hint::black_box;
 use std::process::ExitCode;
@@ -11,7 +12,7 @@ use std::time::{Duration, Instant};
 use workbench::checker::{is_defined, judge_pack, pairs};
 use workbench::encode::{certificate_bytes, pack_bytes};
 use workbench::generate::packs::{dense, guided, Base, Size};
-use workbench::implementation::{all, library_and_before, Implementation};
+use workbench::implementation::{all, library_and_before, Copies, Implementation};
 use workbench::random::Random;
 use workbench::report::{number, run, say, Arguments, Failure};
 use workbench::slow;
@@ -40,7 +41,7 @@ struct File {
 type Job<'a> = &'a dyn Fn(&dyn Implementation) -> u32;
 
 struct Bench {
-    implementations: Vec<Box<dyn Implementation>>,
+    implementations: Vec<Copies>,
     rounds: u64,
     /// They are the library and the one before, and only the ratio is shown.
     before: bool,
@@ -61,7 +62,7 @@ fn bench(arguments: Arguments) -> Result<(), Failure> {
         let none = "no older library is linked; ./bench --before FILE.a links one";
         library_and_before().ok_or_else(|| Failure::CouldNotRun(none.to_string()))?
     } else {
-        all()
+        all().into_iter().map(|one| vec![one]).collect()
     };
     let bench = Bench { implementations, rounds, before };
     let what = if before { "the library in times of the one before" } else { "each in times of the tuned one" };
@@ -156,7 +157,7 @@ fn ask_all(one: &dyn Implementation, workload: &Workload) -> u32 {
 
 impl Bench {
     fn header(&self, what: &str) {
-        let names = self.implementations.iter().map(|one| one.name()).take(self.shown());
+        let names = self.implementations.iter().map(|copies| copies[0].name()).take(self.shown());
         let names: Vec<String> = names.map(|name| format!("{name:>9}")).collect();
         let (space, what) = what.split_at(what.len() - what.trim_start().len());
         say(format_args!("{space}{what:<34}{}  answers", names.concat()));
@@ -171,7 +172,7 @@ impl Bench {
     fn ratios(&self, name: &str, job: Job) {
         let times = self.measure(job);
         let unit = if self.before { "before" } else { "tuned" };
-        let unit = times[self.implementations.iter().position(|one| one.name() == unit).unwrap_or(0)];
+        let unit = times[self.implementations.iter().position(|copies| copies[0].name() == unit).unwrap_or(0)];
         self.line(name, times.iter().take(self.shown()).map(|time| Some(time.div_duration_f64(unit))), job);
     }
 
@@ -201,19 +202,21 @@ impl Bench {
         // A hundredth more or less is what the one before is asked for.
         let places = if self.before { 3 } else { 2 };
         let numbers = numbers.iter().map(|n| n.map_or(format!("{:>9}", "-"), |n| format!("{n:>9.places$}")));
-        let answers: Vec<String> = self.implementations.iter().map(|one| job(one.as_ref()).to_string()).collect();
+        let greatest = |copies: &Copies| copies.iter().map(|one| job(one.as_ref())).fold(0, u32::max).to_string();
+        let answers: Vec<String> = self.implementations.iter().map(greatest).collect();
         say(format_args!("{name:<34}{}  {}{mark}", numbers.collect::<String>(), answers.join(" ")));
     }
 
-    /// The shortest of some rounds, taken in turns so that all meet the same weather.
+    /// The shortest of some rounds, taken in turns so that all meet the same weather; summed over the copies.
     fn measure(&self, job: Job) -> Vec<Duration> {
-        let mut best = vec![Duration::MAX; self.implementations.len()];
+        let longest = |copies: &Copies| vec![Duration::MAX; copies.len()];
+        let mut best: Vec<_> = self.implementations.iter().map(longest).collect();
         for _ in 0..self.rounds {
-            for (one, best) in self.implementations.iter().zip(&mut best) {
+            for (one, best) in self.implementations.iter().flatten().zip(best.iter_mut().flatten()) {
                 *best = (*best).min(time_of(one.as_ref(), job));
             }
         }
-        best
+        best.iter().map(|copies| copies.iter().sum()).collect()
     }
 }
 
