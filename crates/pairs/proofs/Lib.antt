@@ -1,7 +1,7 @@
 -- What the listing, the arcs and the answers are shown to be.
 -- the listing has each pair once, and rises
 pub mod Listed
--- an arc is what the paper's sentence says
+-- an arc is what document 01's sentence says
 pub mod Reaching
 -- and arcs miss no next of a chain
 pub mod ArcsEnough

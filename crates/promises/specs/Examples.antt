@@ -132,7 +132,7 @@ thrice = system (1 ∷ 1 ∷ []) ((app₁ 0 (app₁ 1 (app₁ 1 (app₁ 1 (var 0
 unfoldable pub heavy-s : List Component
 heavy-s = weighted (a-pair 0 0 ∷ []) (a-weight 1 0 1 ∷ a-weight 1 1 65535 ∷ []) (a-weight 0 1 1 ∷ []) ∷ []
 
--- THE STARRED CASES but one, a → a under any weighting: pack, certificate, and the paper's number, 0 being accepted
+-- THE STARRED CASES but one, a → a under any weighting: pack, certificate, and document 01's number, 0 being accepted
 pub record Case : Type 0 where
   pub pack : System
   pub certificate : List Component
