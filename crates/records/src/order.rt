@@ -130,6 +130,7 @@ fn row_of(before: usize) -> Row
         },
         8 => ever(AFTER_W),
         9 => ever(AFTER_M),
+        // The start of a certificate; the rows between are empty.
         14 => ever(AFTER_CERTIFICATE_START),
         _ => ever(0),
     }
