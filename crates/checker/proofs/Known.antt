@@ -62,12 +62,12 @@ known-without c none k passed =
     (record { behind = omega (arith, k .behind); none = k .none; some = k .some })
 
 -- under the same weights the table holds them and the rules hold as before
-module _ {p : System} {cert : List ℕ} {before : ℕ} {table : List ℕ} (held : Weights-held p cert before table) {ws : List Weight} (same : held .weights ≡ ws) where
+module _ {p : System} {cert : List ℕ} {before : ℕ} {table : List ℕ} (k : Weights-held p cert before table) {ws : List Weight} (same : k .held .weights ≡ ws) where
   pub still-held : Table-is table ws
-  still-held = rw same at (held .kept)
+  still-held = rw same at (k .held .kept)
 
   pub still-hold : (marked : List Weight) → Holds ≡ rules-verdict p ws marked
-  still-hold marked = rw same at (held .hold marked)
+  still-hold marked = rw same at (k .hold marked)
 
 -- A COMPONENT WITH ONE WEIGHTING
 
@@ -165,9 +165,7 @@ module _ {cert : List ℕ} {at count before rules : ℕ} {ar ss ns table : List 
             none = λ e. absurd (omega arith);
             some = λ h.
                 record {
-                  weights = w .weights;
-                  stand = weights-there;
-                  kept = called .weights-stay (w .weights) held;
+                  held = record { weights = w .weights; stand = weights-there; kept = called .weights-stay (w .weights) held };
                   hold = rules-hold-under p w _ (sym number ∙ accepted);
                 };
           })

@@ -126,12 +126,16 @@ chosen Holds Over n = refused 11
 chosen Holds Fails n = refused 13
 chosen Holds Holds n = passed n
 
--- the table holds the weights whose W records begin at record `before`, and all rules hold under them, whatever the marked ones are
-pub record Weights-held (p : System) (certificate : List ℕ) (before : ℕ) (table : List ℕ) : Type 0 where
+-- the table holds the weights whose W records begin at record `before`
+pub record Weights-in (certificate : List ℕ) (before : ℕ) (table : List ℕ) : Type 0 where
   pub weights : List Weight
   pub stand : Weights-at certificate before W-weight weights
   pub kept : Table-is table weights
-  pub hold : (marked : List Weight) → Holds ≡ rules-verdict p weights marked
+
+-- and all rules hold under them, whatever the marked ones are
+pub record Weights-held (p : System) (certificate : List ℕ) (before : ℕ) (table : List ℕ) : Type 0 where
+  pub held : Weights-in certificate before table
+  pub hold : (marked : List Weight) → Holds ≡ rules-verdict p (held .weights) marked
 
 -- what is known when the components up to record `at` have passed: `before` is where the last weights begin, 0 where there were none
 pub record Rules-known (p : System) (certificate : List ℕ) (at before : ℕ) (table : List ℕ) : Type 0 where
@@ -183,12 +187,6 @@ pub record Same-record (x y : Record) : Type 0 where
 pub record Weights-agree (certificate : List ℕ) (before from after : ℕ) : Type 0 where
   pub earlier : 0 < before
   pub agree : (vs ws : List Weight) → Weights-at certificate before W-weight vs → Weights-at certificate from W-weight ws → Same-weights vs ws from after
-
--- the table holds the weights whose W records begin at record `before`
-pub record Weights-in (certificate : List ℕ) (before : ℕ) (table : List ℕ) : Type 0 where
-  pub weights : List Weight
-  pub stand : Weights-at certificate before W-weight weights
-  pub kept : Table-is table weights
 
 -- the weights at `from` are to take the place of those at `before`, or of none
 pub record Refill-asked (certificate : List ℕ) (before from : ℕ) (table : List ℕ) : Type 0 where

@@ -27,8 +27,8 @@ module _
   held : Weights-held (a .asked .kept .system) cert before table
   held = a .known .some (told .earlier)
 
-  run : Same-weights (held .weights) (its-weighting a .weights) (at + 1 + count) after
-  run = told .agree (held .weights) (its-weighting a .weights) (held .stand) (weights-there a)
+  run : Same-weights (held .held .weights) (its-weighting a .weights) (at + 1 + count) after
+  run = told .agree (held .held .weights) (its-weighting a .weights) (held .held .stand) (weights-there a)
 
 judge-calls-requires : tie.Need-judge-calls-requires
 judge-calls-requires c κs =
@@ -62,7 +62,7 @@ refill-requires c κs =
       weights = its-weighting a .weights;
       stand = weights-there a;
       none = a .known .none;
-      some = λ h. let held = a .known .some h in record { weights = held .weights; stand = held .stand; kept = held .kept };
+      some = λ h. a .known .some h .held;
     }
 
 -- the verdict on all rules under them, and where it was found
