@@ -1,21 +1,20 @@
 -- How the code lists pairs and walks two terms, over a pack as it is kept. The contracts between our own functions speak of
 -- it; no promise to a user does.
 use mathlib.Core.Path.{_≡_}
-use mathlib.Core.Bool.{Bool, true, false, _&&_, _||_, not, cond}
+use mathlib.Core.Bool.{Bool, true, _&&_, _||_, not, cond}
 use mathlib.Core.List.{List, [], _∷_, _++_, map}
-use Prim.Native.Nat.{ℕ, zero, suc, _+_, _*_, _-_, _≤_, _<_}
+use Prim.Native.Nat.{ℕ, zero, suc, _+_, _*_, _≤_, _<_}
 use lib.Dec.{ltb, leb, eqb}
 use lib.ListN.{length, getD, take, drop}
-use Rattle.rewriting.specs.Terms.{Tree, System, rule, is-list, is-term, well, width}
-use Rattle.rewriting.specs.Pairs.{Pair, pair-left, pair-right, is-pair, defined}
+use Rattle.rewriting.specs.Terms.{Tree, System, rule, is-list, well, width}
+use Rattle.rewriting.specs.Pairs.{Pair, is-pair, defined}
 use Rattle.records.specs.declared.Answer.{Answer}
-use Rattle.records.specs.Outcomes.{Outcome, refused, passed}
+use Rattle.records.specs.Outcomes.{refused, passed}
 use Rattle.records.specs.Answers.{answer-outcome}
 use Rattle.terms.specs.Sides.{flat}
 use Rattle.terms.specs.Kept.{Kept, part, nodes-room, starts-room, symbols-room, Term-at}
 use Rattle.pack_reader.specs.Stored.{Stored}
-use Rattle.pairs.specs.Listing.{a-pair, pairs, pairs-of, pair-bytes}
-use Rattle.pairs.specs.Arcs.{may-reach, arc}
+use Rattle.pairs.specs.Listing.{a-pair, pairs, pair-bytes}
 
 -- a node's byte applies a defined symbol
 unfoldable pub is-defined : (flags : List ℕ) → ℕ → Bool

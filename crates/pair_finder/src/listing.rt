@@ -7,7 +7,7 @@ ghost use Prim.Native.Nat.{_+_, _*_, _≤_, _<_};
 ghost use lib.ListN.{length, drop};
 ghost use Rattle.terms.specs.Kept.{part, symbols-room};
 ghost use Rattle.pairs.specs.Listing.{a-pair, pair-bytes};
-ghost use Rattle.pair_finder.specs.Walking.{is-defined, places, rule-pairs, first-pairs, Laid, Written};
+ghost use Rattle.pair_finder.specs.Walking.{is-defined, places, first-pairs, Laid, Written};
 
 // The node applies a defined symbol.
 pub fn is_defined(defined: &[u8], code: u8) -> bool
