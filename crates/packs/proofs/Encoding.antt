@@ -87,12 +87,12 @@ module _ (p : System) (u : Rule) (fits : Rule-fits p u) where
 
 -- THE BYTES: each field is in range, and there are not too many
 
-length-symbols : (i : ℕ) (ar : List ℕ) → length (symbol-records i ar) ≡ length ar
+pub length-symbols : (i : ℕ) (ar : List ℕ) → length (symbol-records i ar) ≡ length ar
 unfolding symbol-records
 length-symbols i [] = refl
 length-symbols i (n ∷ ar) = ap suc (length-symbols (suc i) ar)
 
-length-nodes : (ns : List Node) → length (node-records ns) ≡ length ns
+pub length-nodes : (ns : List Node) → length (node-records ns) ≡ length ns
 unfolding node-records
 length-nodes [] = refl
 length-nodes (n ∷ ns) = ap suc (length-nodes ns)

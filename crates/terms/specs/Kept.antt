@@ -1,6 +1,6 @@
 -- How the code keeps terms: a byte a node, in prefix order.
 use mathlib.Core.Path.{_≡_}
-use mathlib.Core.Bool.{Bool, true, false, cond}
+use mathlib.Core.Bool.{Bool, true, false, _&&_, cond}
 use mathlib.Core.List.{List, [], _∷_, map}
 use Prim.Native.Nat.{ℕ, zero, suc, _+_, _-_, _≤_}
 use lib.Dec.{ltb}
@@ -25,6 +25,12 @@ code (symbol f) = f
 
 unfoldable pub codes : List Node → List ℕ
 codes ns = map code ns
+
+-- symbols stand below the first variable's byte, so that a byte tells which it is
+unfoldable pub symbols-below : List Node → Bool
+symbols-below [] = true
+symbols-below (variable v ∷ ns) = symbols-below ns
+symbols-below (symbol f ∷ ns) = ltb f symbols-room && symbols-below ns
 
 -- the nodes `ns` are kept from place a on
 pub record Kept (nodes : List ℕ) (a : ℕ) (ns : List Node) : Type 0 where
