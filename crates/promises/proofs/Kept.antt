@@ -1,5 +1,6 @@
 -- Every promise is kept: a proof of each statement of specs/Promises.antt, in its order, each from the theorem that it rests on.
 use mathlib.Core.Path.{_≡_, refl, sym, ap, _∙_}
+use mathlib.Core.Bool.{true}
 use mathlib.Core.Logic.{_↔_, ⊎-elim}
 use mathlib.Core.List.{List, [], _∷_}
 use Prim.Native.Nat.{ℕ, _≤_}
@@ -46,10 +47,16 @@ use Rattle.judging.proofs.Components.{All-fit}
 use Rattle.judging.proofs.Shows.{judged-8, judged-9, judged-0, judged-10-to-13}
 use Rattle.judging.proofs.Checking.{check-cut, check-of-read, pack-first, then-certificate, check-range, cut-exactly, judged-as}
 use Rattle.judging.proofs.Plain.{plain-small, judged-plain-terminates}
+use Rattle.texts.specs.TextReading.{text-pack, pack-after, pack-value}
+use Rattle.texts.proofs.Answering as texts
+use Rattle.texts.proofs.Sizes.{pack-small}
+use Rattle.texts.proofs.GoodTexts.{good-within}
+use Rattle.texts.proofs.ReadBack.{text-read-back}
 use Rattle.promises.specs.Promises
 use Rattle.promises.proofs.Numbers.{counted}
 use Rattle.promises.proofs.Refusing.{pack-cut, only-cut, pack-refuses, failing-refused, certificate-cut, only-certificate-cut, certificate-refuses, failing-certificate, pack-given, certificate-given, either-refuses, either-given, only-pack, only-certificate}
 use Rattle.promises.proofs.Starred.{starred-cases, other-numbers, list-short, list-fills, division-arcs, division-sizes, division-pairs}
+use Rattle.promises.proofs.Texts.{division-given, division-long, division-accepted, text-answers}
 use Rattle.promises.proofs.Loop.{loop-checked}
 use Rattle.promises.proofs.Largest.{largest-read, largest-long, longest-read, longest-long, dense-read, dense-long, brink-accepted, brink-heavy}
 use Rattle.promises.proofs.Concrete.{minus-term, minus-step, first-valid, minus-follows}
@@ -415,6 +422,59 @@ pub forms-limit : Promises.Forms-limit
 unfolding Promises.Forms-limit
 forms-limit = (brink-accepted, brink-heavy)
 
+-- TEXTS
+pub one-text-kept : Promises.One-text
+unfolding Promises.One-text
+one-text-kept bs t u s r = texts.one-text bs t u s r
+
+pub text-range-kept : Promises.Text-range
+unfolding Promises.Text-range Promises.text-numbers member
+text-range-kept bs room = texts.text-range bs room (λ n. member n Promises.text-numbers ≡ true) refl refl refl refl
+
+pub text-passes : Promises.Text-passes
+unfolding Promises.Text-passes
+text-passes bs room p = (to, from)
+  where
+    to : text-pack bs room ≡ passed p → Promises.Text-gives bs room p
+    to e =
+        let a = texts.text-given bs room p e in
+        record { text = a .0; spells = a .1; good = a .2; is = a .3; fits = a .4 }
+
+    from : Promises.Text-gives bs room p → text-pack bs room ≡ passed p
+    from a =
+        let l = a .fits in
+        rw (a .is) (texts.text-passes bs room (a .text) (a .spells) (a .good) (rw (a .is) at l))
+
+pub refused-15 : Promises.Refused-15
+unfolding Promises.Refused-15
+refused-15 bs room = (texts.no-text-15 bs room, texts.refused-15 bs room)
+
+pub refused-16 : Promises.Refused-16
+unfolding Promises.Refused-16
+refused-16 bs room = (texts.not-good-16 bs room, λ h. texts.refused-16 bs room (h .0) (h .1) (h .2))
+
+pub text-refused-14 : Promises.Text-refused-14
+unfolding Promises.Text-refused-14
+text-refused-14 bs room = (texts.too-long-14 bs room, λ h. texts.refused-14 bs room (h .0) (h .1) (h .2) (h .3))
+
+pub text-leaves : Promises.Text-leaves
+unfolding Promises.Text-leaves
+text-leaves bs o n e = texts.refused-leaves (text-pack bs (length o)) o n e
+
+pub text-fills : Promises.Text-fills
+unfolding Promises.Text-fills pack-value pack-after
+text-fills bs o p e =
+    let fits = texts.text-given bs (length o) p e .4 in
+    rw e (refl, record { as-long = texts.written-long p o fits; pack = texts.written-pack p o; rest = texts.written-rest p o })
+
+pub text-enough : Promises.Text-enough
+unfolding Promises.Text-enough
+text-enough t g = pack-small t (good-within t g)
+
+pub texts-back : Promises.Texts-back
+unfolding Promises.Texts-back
+texts-back bs t s g r = text-read-back t g (s .bare) (r .no-5) (r .no-6)
+
 -- NOT VACUOUS
 pub starred-cases-kept : Promises.Starred-cases
 unfolding Promises.Starred-cases
@@ -447,3 +507,11 @@ concrete-step = (minus-term, minus-step)
 pub concrete-chain : Promises.Concrete-chain
 unfolding Promises.Concrete-chain
 concrete-chain = (_, _, refl, refl, first-valid, minus-follows)
+
+pub division-text-kept : Promises.Division-text
+unfolding Promises.Division-text
+division-text-kept = (division-given, division-long, division-accepted)
+
+pub text-answers-kept : Promises.Text-answers
+unfolding Promises.Text-answers
+text-answers-kept = text-answers

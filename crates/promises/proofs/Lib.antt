@@ -1,5 +1,7 @@
 -- Where the promises are kept.
 pub mod Computed
+pub mod ComputedTexts
+pub mod Texts
 pub mod Starred
 pub mod Loop
 pub mod Concrete

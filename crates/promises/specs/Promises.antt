@@ -5,14 +5,14 @@ use mathlib.Core.Bool.{Bool, true, false, _&&_, _||_}
 use mathlib.Core.List.{List, [], _∷_, _++_, map}
 use mathlib.Core.Logic.{_⊎_}
 use Prim.Native.Nat.{ℕ, suc, _*_, _%_, _≤_, _<_}
-use lib.ListN.{length, getD}
+use lib.ListN.{length, getD, take}
 use Rattle.rewriting.specs.Terms.{Tree, System, rule, is-list, is-term, Substitution, substituted, Over}
 use Rattle.rewriting.specs.Steps.{full, Step}
 use Rattle.rewriting.specs.Contexts.{Context, plugged, Contracts}
 use Rattle.rewriting.specs.Termination.{SN}
 use Rattle.rewriting.specs.Pairs.{Pair, is-pair, pair-left, pair-right, same-root, has-root, arguments, defined}
 use Rattle.rewriting.specs.Chains.{Link, Valid, Next, Terminating, Chains-terminating}
-use Rattle.rewriting.specs.Systems.{member, variables-below}
+use Rattle.rewriting.specs.Systems.{member, variables-below, is-app, variables, all-in}
 use Rattle.records.specs.declared.Record.{Record}
 use Rattle.records.specs.Outcomes.{refused, passed, refusal}
 use Rattle.records.specs.Records.{record-at, a-record, all-bytes, all-records, all-record-bytes, length-bad}
@@ -36,7 +36,12 @@ use Rattle.certificates.specs.CertificateFailures.{Certificate-fails}
 use Rattle.judging.specs.Judges.{plain}
 use Rattle.judging.specs.Check.{check}
 use Rattle.judging.specs.Shown.{Each-once, No-back-arc, First-failure, Shows}
+use Rattle.texts.specs.Spelling.{Text}
+use Rattle.texts.specs.Numbers.{numbered}
+use Rattle.texts.specs.TextReading.{text-pack, pack-after, pack-value}
+use Rattle.texts.specs.GoodTexts.{Spells, Good-text}
 use Rattle.promises.specs.Limits.{largest-pack, longest-certificate, dense-pack, dense-certificate, brink, brink-with}
+use Rattle.promises.specs.TextExamples.{division-text, division-read, division-read-shown, text-cases}
 use Rattle.promises.specs.Examples.{starred, others, division, division-shown, loop, loop-under, constant, app₂}
 
 -- THE THIRD DEMAND
@@ -428,6 +433,81 @@ unfoldable pub Forms-limit : Type 0
 Forms-limit =
     (check (pack-bytes brink) (certificate-bytes (brink-with 0)) ≡ 0) × (check (pack-bytes brink) (certificate-bytes (brink-with 1)) ≡ 11)
 
+-- TEXTS (document 02, N1)
+-- Bytes are one text at most.
+unfoldable pub One-text : Type 0
+One-text = (bs : List ℕ) (t u : Text) → Spells bs t → Spells bs u → t ≡ u
+
+unfoldable pub text-numbers : List ℕ
+text-numbers = 0 ∷ 14 ∷ 15 ∷ 16 ∷ []
+
+unfoldable pub Text-range : Type 0
+Text-range = (bs : List ℕ) (room : ℕ) → member (refusal (text-pack bs room)) text-numbers ≡ true
+
+-- A text gives a pack exactly if it is good and the buffer holds the pack; the pack then has the text's rules in their order, with the
+-- numbers of first appearance for its names.
+pub record Text-gives (bs : List ℕ) (room : ℕ) (p : System) : Type 0 where
+  pub text : Text
+  pub spells : Spells bs text
+  pub good : Good-text text
+  pub is : p ≡ numbered text
+  pub fits : length (pack-bytes p) ≤ room
+
+unfoldable pub Text-passes : Type 0
+Text-passes =
+    (bs : List ℕ) (room : ℕ) (p : System) →
+    (text-pack bs room ≡ passed p → Text-gives bs room p) × (Text-gives bs room p → text-pack bs room ≡ passed p)
+
+-- 15: the bytes are no text.
+unfoldable pub Refused-15 : Type 0
+Refused-15 =
+    (bs : List ℕ) (room : ℕ) →
+    (text-pack bs room ≡ refused 15 → (t : Text) → Spells bs t → ⊥) × (((t : Text) → Spells bs t → ⊥) → text-pack bs room ≡ refused 15)
+
+-- 16: they are a text that is not good.
+unfoldable pub Refused-16 : Type 0
+Refused-16 =
+    (bs : List ℕ) (room : ℕ) →
+    (text-pack bs room ≡ refused 16 → (t : Text) × Spells bs t × (Good-text t → ⊥))
+    × ((t : Text) × Spells bs t × (Good-text t → ⊥) → text-pack bs room ≡ refused 16)
+
+-- 14: they are a good text, and the buffer is shorter than its pack.
+unfoldable pub Text-refused-14 : Type 0
+Text-refused-14 =
+    (bs : List ℕ) (room : ℕ) →
+    (text-pack bs room ≡ refused 14 → (t : Text) × Spells bs t × Good-text t × (room < length (pack-bytes (numbered t))))
+    × ((t : Text) × Spells bs t × Good-text t × (room < length (pack-bytes (numbered t))) → text-pack bs room ≡ refused 14)
+
+-- A refused text leaves the buffer as it was; a pack is written from its start on, and no other byte changes.
+unfoldable pub Text-leaves : Type 0
+Text-leaves =
+    (bs o : List ℕ) (n : ℕ) → text-pack bs (length o) ≡ refused n →
+    (pack-value (text-pack bs (length o)) ≡ 0) × (pack-after (text-pack bs (length o)) o ≡ o)
+
+pub record Pack-written (p : System) (before after : List ℕ) : Type 0 where
+  pub as-long : length after ≡ length before
+  pub pack : take (length (pack-bytes p)) after ≡ pack-bytes p
+  pub rest : (i : ℕ) → length (pack-bytes p) ≤ i → getD after i 0 ≡ getD before i 0
+
+unfoldable pub Text-fills : Type 0
+Text-fills =
+    (bs o : List ℕ) (p : System) → text-pack bs (length o) ≡ passed p →
+    (pack-value (text-pack bs (length o)) ≡ length (pack-bytes p)) × Pack-written p o (pack-after (text-pack bs (length o)) o)
+
+-- A buffer of 33,792 bytes holds the pack of every good text.
+unfoldable pub Text-enough : Type 0
+Text-enough = (t : Text) → Good-text t → length (pack-bytes (numbered t)) ≤ 33792
+
+-- Where 5 and 6 are not given, the pack of a good text is read back as the text's system, and no other refusal is given.
+pub record Sound-rules (p : System) : Type 0 where
+  pub no-5 : (i : ℕ) → i < length (p .rules) → is-app (rule p i .left) ≡ true
+  pub no-6 : (i : ℕ) → i < length (p .rules) → all-in (variables (rule p i .right)) (variables (rule p i .left)) ≡ true
+
+unfoldable pub Texts-back : Type 0
+Texts-back =
+    (bs : List ℕ) (t : Text) → Spells bs t → Good-text t → Sound-rules (numbered t) →
+    read-pack (pack-bytes (numbered t)) ≡ passed (numbered t)
+
 -- NOT VACUOUS
 -- The starred cases of document 01, from the bytes of both files; a → a under a weighting is Loop-refused.
 unfoldable pub Starred-cases : Type 0
@@ -467,3 +547,14 @@ Concrete-step =
 unfoldable pub Concrete-chain : Type 0
 Concrete-chain =
     (x : Link) × (y : Link) × (x .pair ≡ a-pair 1 0) × (y .pair ≡ a-pair 1 0) × Valid division full x × Next division full x y
+
+-- Division's text gives 296 bytes: Division with its symbols numbered by first appearance; its certificate so renumbered is accepted.
+unfoldable pub Division-text : Type 0
+Division-text =
+    (text-pack division-text 296 ≡ passed division-read)
+    × (length (pack-bytes division-read) ≡ 296)
+    × (check (pack-bytes division-read) (certificate-bytes division-read-shown) ≡ 0)
+
+-- A small text for each answer.
+unfoldable pub Text-answers : Type 0
+Text-answers = map (λ c. refusal (text-pack (c .text) (c .room))) text-cases ≡ map (λ c. c .number) text-cases
