@@ -19,6 +19,9 @@ pub const MOST_CERTIFICATE_BYTES: usize = 24576;
 
 pub const MOST_PAIRS: usize = 2048;
 
+// Document 02's limit on a text's bytes.
+pub const MOST_TEXT_BYTES: usize = 32768;
+
 // A record as its fields. Byte 0 is the kind, byte 1 is `one`, and a, b and c are two bytes each, low byte first.
 pub struct Record {
     pub kind: u8,

@@ -1,0 +1,2 @@
+-- How the code reads a text's tokens and names.
+pub mod Told
