@@ -1,0 +1,2 @@
+-- How the code reads a side.
+pub mod Sides
