@@ -1,0 +1,2 @@
+-- How the code keeps the names that VAR lists.
+pub mod Table
