@@ -1,0 +1,2 @@
+-- How the code keeps the numbers of a text's names, and its rules.
+pub mod Tables
