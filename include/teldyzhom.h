@@ -5,13 +5,13 @@
  *
  *     cc -std=c99 -Iinclude program.c target/staticlib/libteldyzhom.a
  *
- * Answers: every function answers for all bytes and all numbers. docs/FORMAT.md has both file formats.
+ * Answers: every function answers for all bytes and all numbers. docs/FORMAT.md has both file formats, and the texts.
  *
- * Buffers: a pointer must be valid for its length for the whole call, a file's to read, a list's to read and write. It
- * is never NULL, also where the length is 0, since the compiler may count on that: an empty file is any other pointer
- * and the length 0. The list must not overlap the pack; two files may overlap. During the call nobody may change a file
- * or touch the list, no other thread either. No function keeps a pointer, uses the heap or touches memory besides the
- * buffers lent and its stack.
+ * Buffers: a pointer must be valid for its length for the whole call, that of a file or a text to read, that of what is
+ * written, a list or a text's pack, to read and write. It is never NULL, also where the length is 0, since the compiler may count on
+ * that: an empty file is any other pointer and the length 0. What is written must not overlap what is read; two files
+ * may overlap. During the call nobody may change what is read or touch what is written, no other thread either. No
+ * function keeps a pointer, uses the heap or touches memory besides the buffers lent and its stack.
  *
  * Threads: the library has no state of its own. Any thread may call it, and any number at once, on buffers of their own
  * or on shared ones that are only read.
@@ -28,6 +28,10 @@
  * only one byte more than the limit. */
 #define TELDYZHOM_PACK_MAX 33792
 #define TELDYZHOM_CERTIFICATE_MAX 24576
+
+/* The longest text in bytes. A longer one may be passed and is answered with 15 (bad text), so here too one byte more
+ * than the limit is enough to read. */
+#define TELDYZHOM_TEXT_MAX 32768
 
 /* A list of so many bytes always suffices: 2,048 pairs of 8 bytes. */
 #define TELDYZHOM_LIST_ENOUGH 16384
@@ -55,7 +59,9 @@ enum teldyzhom_number {
     TELDYZHOM_HEAVY = 11,          /* a form passes the limit */
     TELDYZHOM_RULE_RISES = 12,     /* a rule's left is not at least its right */
     TELDYZHOM_PAIR_STAYS = 13,     /* a pair's left is not greater than its right */
-    TELDYZHOM_SHORT_LIST = 14      /* the lent list cannot hold all pairs */
+    TELDYZHOM_SHORT_LIST = 14,     /* the lent list cannot hold all pairs, or the lent buffer the pack of a text */
+    TELDYZHOM_BAD_TEXT = 15,       /* a text is outside the grammar or over its limit */
+    TELDYZHOM_TEXT_LIMITS = 16     /* a name of a text has two arities, or a count is over its limit */
 };
 
 /* A refusal's number and 0, or 0 and a value. */
@@ -75,6 +81,12 @@ struct teldyzhom_answer teldyzhom_list(const uint8_t *pack, size_t pack_len, uin
 /* Whether an arc runs from one pair to another: number 0 and 1 for yes, 0 for no; or a refusal, 1 to 7. */
 struct teldyzhom_answer teldyzhom_arc(const uint8_t *pack, size_t pack_len, uint32_t rule, uint32_t place,
                                       uint32_t other_rule, uint32_t other_place);
+
+/* Reads a solver's text (docs/FORMAT.md) and writes its pack to the start of the buffer `pack`: number 0 and the pack's
+ * length in bytes. A buffer of TELDYZHOM_PACK_MAX bytes always suffices. A refusal (15, then 16, then 14 if the buffer is
+ * shorter than the pack) leaves the buffer untouched; no byte after the pack changes. The pack is not judged: 2, 5 and 6
+ * are left to the functions that read it. */
+struct teldyzhom_answer teldyzhom_read_text(const uint8_t *text, size_t text_len, uint8_t *pack, size_t pack_len);
 
 #ifdef __cplusplus
 }

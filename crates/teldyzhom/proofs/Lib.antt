@@ -2,3 +2,4 @@
 pub mod Entering
 pub mod ForC
 pub mod Checks
+pub mod Reading

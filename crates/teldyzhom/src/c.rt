@@ -8,6 +8,7 @@ ghost use Rattle.records.specs.Outcomes.{refusal};
 ghost use Rattle.pairs.specs.Listing.{a-pair};
 ghost use Rattle.pairs.specs.Answers.{listing, arc-question, buffer-after, list-value};
 ghost use Rattle.judging.specs.Check.{check};
+ghost use Rattle.texts.specs.TextReading.{text-pack, pack-after, pack-value};
 ghost use Rattle.teldyzhom.specs.Entries.{Accepting, arc-value};
 
 // A refusal's number and 0, or 0 and a value.
@@ -72,6 +73,25 @@ pub extern "C" fn teldyzhom_arc(
         ArcAnswer::No => Reply {
             number: 0,
             value: 0,
+        },
+    }
+}
+
+// How many bytes the text's pack has.
+#[no_mangle]
+pub extern "C" fn teldyzhom_read_text(text: &[u8], pack: &mut [u8]) -> Reply
+    ensures number { λ r. ⌜ r .number ≡ refusal (text-pack (now (text .entry)) (length (now (pack .entry)))) ⌝ }
+    ensures value { λ r. ⌜ r .value ≡ pack-value (text-pack (now (text .entry)) (length (now (pack .entry)))) ⌝ }
+    ensures leaves { λ _. ⌜ now (pack .exit) ≡ pack-after (text-pack (now (text .entry)) (length (now (pack .entry)))) (now (pack .entry)) ⌝ }
+{
+    match crate::read_text(text, pack) {
+        Answer::Refused(x) => Reply {
+            number: records::number(x),
+            value: 0,
+        },
+        Answer::Passed(n) => Reply {
+            number: 0,
+            value: n as u32,
         },
     }
 }

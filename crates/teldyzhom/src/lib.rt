@@ -1,4 +1,4 @@
-// The loader's three entries: the check, the listing and the arc question; and the same as C functions.
+// The loader's four entries: the check, the listing, the arc question and the reader of texts; and the same as C functions.
 mod c;
 mod kept;
 
@@ -16,6 +16,8 @@ ghost use Rattle.pairs.specs.Listing.{a-pair};
 ghost use Rattle.pairs.specs.Answers.{listing, arc-question, buffer-after};
 ghost use Rattle.pairs.specs.Says.{Listed-as, Arc-as};
 ghost use Rattle.judging.specs.Check.{check};
+ghost use Rattle.texts.specs.TextReading.{text-pack, pack-after};
+ghost use Rattle.texts.specs.Says.{Read-as};
 ghost use Rattle.teldyzhom.specs.Entries.{checked-number, Accepting};
 
 // What the check answers.
@@ -108,5 +110,29 @@ pub fn arc_runs(pack: &[u8], rule: u32, place: u32, other_rule: u32, other_place
             &nodes,
             &defined,
         ),
+    }
+}
+
+// Reads a text of rules as the solvers write them, and writes its pack to the caller's buffer. Answers the pack's length in bytes; a
+// refusal leaves the buffer untouched, and no byte after the pack changes.
+pub fn read_text(text: &[u8], pack: &mut [u8]) -> Answer
+    ensures says { λ r. ⌜ Read-as (text-pack (now (text .entry)) (length (now (pack .entry)))) r ⌝ }
+    ensures leaves { λ _. ⌜ now (pack .exit) ≡ pack-after (text-pack (now (text .entry)) (length (now (pack .entry)))) (now (pack .entry)) ⌝ }
+{
+    let mut arities = [0u8; MOST_SYMBOLS];
+    let mut starts = [0u16; STARTS_ROOM];
+    let mut nodes = [0u8; NODES_ROOM];
+    match text_reader::read_text(text, &mut arities, &mut starts, &mut nodes) {
+        PackRead::Refused(x) => Answer::Refused(x),
+        PackRead::Read(c) => {
+            let symbols = c.symbols;
+            let rules = c.rules;
+            let size = pack_writer::pack_length(symbols, rules, &arities, &starts, &nodes);
+            if pack.len() < size {
+                return Answer::Refused(Refusal::ShortList);
+            }
+            pack_writer::write_pack(pack, symbols, rules, &arities, &starts, &nodes);
+            Answer::Passed(size)
+        }
     }
 }
