@@ -1,2 +1,2 @@
--- What the proofs of reading share.
+-- What the proofs of reading and writing share.
 pub mod Counting

@@ -1,4 +1,7 @@
-// Files and standard input, read so that a failure is told from the end.
+// Files and standard input, read so that a failure is told from the end; and files written whole or not at all.
+mod write;
+
+pub use write::write_argument;
 ghost use mathlib.Core.Path.{_≡_};
 ghost use Prim.Native.Nat.{_≤_, min};
 ghost use lib.ListN.{length};
