@@ -33,6 +33,20 @@ failing() { # BYTES NAME COMMAND...
     FAIL_READ_AFTER=$1 FAIL_READ_IN=$2 LD_PRELOAD=${failing_read:?} "${@:3}"
 }
 
+# Runs a command in which those calls of the program of that name fail; tests/failing_write.c has the words for them.
+failing_call() { # CALLS NAME COMMAND...
+    FAIL_CALL=$1 FAIL_CALL_IN=$2 LD_PRELOAD=${failing_write:?} "${@:3}"
+}
+
+# Runs a command that can write no byte to a file; what it says goes through pipes, since it may be kept in files.
+roomless() {
+    {
+        (ulimit -f 0 && exec "$@") 2>&1 >&5 5>&- | cat >&2
+        exit "${PIPESTATUS[0]}"
+    } 5>&1 | cat
+    return "${PIPESTATUS[0]}"
+}
+
 # Runs a command whose output nobody reads any more.
 unread() {
     local reader
@@ -51,10 +65,21 @@ make_scratch() {
     head -c 24584 /dev/zero >scratch/long.cert
     cp examples/division.pack scratch/secret
     chmod 000 scratch/secret
+    head -c 40000 /dev/zero | tr '\0' ' ' >scratch/long.trs
+    printf '(RULES\n' >scratch/open.trs
+    printf '(VAR x)\n(RULES f(x) -> f(x, x))\n' >scratch/two-arities.trs
+    mkdir scratch/packs scratch/shut
+    chmod 555 scratch/shut
+    cp examples/loop.pack scratch/packs/old.pack
+    cp examples/loop.pack scratch/packs/locked.pack
+    chmod 444 scratch/packs/locked.pack
+    ln -s old.pack scratch/packs/link.pack
+    ln -s none.pack scratch/packs/loose.pack
+    mkfifo scratch/packs/pipe.pack
     ln -s ../loader scratch/link
     ln -s link 'scratch/link of a link'
     mkdir scratch/bare
     ln -s "$(command -v bash)" "$(command -v dirname)" "$(command -v readlink)" "$(command -v nm)" scratch/bare
 }
 
-export -f as_nobody unwritable without_rt failing unread
+export -f as_nobody unwritable without_rt failing failing_call roomless unread

@@ -1,4 +1,4 @@
-// The loader's three questions on the command line.
+// The loader's questions on the command line.
 mod numbers;
 
 ghost use Prim.Native.Nat.{_≤_};
@@ -19,10 +19,12 @@ const PACK_ROOM: usize = records::MOST_PACK_BYTES + 1;
 
 const CERTIFICATE_ROOM: usize = records::MOST_CERTIFICATE_BYTES + 1;
 
+const TEXT_ROOM: usize = records::MOST_TEXT_BYTES + 1;
+
 // A list of 2,048 pairs, the most there can be.
 const LIST_ROOM: usize = 8 * records::MOST_PAIRS;
 
-// How a run ended: accepted, yes or a listing; refused or no; or nothing could be judged.
+// How a run ended: accepted, yes, a listing or a pack; refused or no; or nothing could be judged.
 enum Ended {
     Good,
     Against,
@@ -49,7 +51,7 @@ fn refused(x: Refusal) -> Ended {
 fn usage() -> Ended {
     io::write_all(
         STDERR_FILENO,
-        b"usage: loader check PACK CERTIFICATE\n       loader pairs PACK\n       loader arc PACK RULE PLACE RULE PLACE\n",
+        b"usage: loader check PACK CERTIFICATE\n       loader pairs PACK\n       loader arc PACK RULE PLACE RULE PLACE\n       loader read TEXT PACK\n",
     );
     Ended::Unjudged
 }
@@ -127,6 +129,32 @@ fn arc(at: usize) -> Ended
     ask(at, a, b, c, d)
 }
 
+// Writes the pack, and then its length as the answer; the pack stays where the answer cannot be told.
+fn give_pack(pack_at: usize, pack: &[u8]) -> Ended {
+    if !files::write_argument(pack_at, pack) {
+        return Ended::Unjudged;
+    }
+    after(printing::number(pack.len() as u64), Ended::Good)
+}
+
+fn read(text_at: usize, pack_at: usize) -> Ended {
+    let mut text = [0u8; TEXT_ROOM];
+    let mut pack = [0u8; records::MOST_PACK_BYTES];
+    let text_read = files::read_argument(text_at, &mut text);
+    if let FileRead::Failed = text_read {
+        return Ended::Unjudged;
+    }
+    let n = files::held(text_read, &text);
+    match teldyzhom::read_text(&text[..n], &mut pack) {
+        Answer::Refused(x) => refused(x),
+        Answer::Passed(k) => {
+            // All k of them: the answer is never more than the buffer holds.
+            let m = files::held(FileRead::Bytes(k), &pack);
+            give_pack(pack_at, &pack[..m])
+        }
+    }
+}
+
 // Answers the question whose verb is argument `at`, of `given` words from the verb on.
 fn answer(at: usize, given: usize) -> Ended
     requires { ⌜ at ≤ 2 ⌝ }
@@ -140,6 +168,15 @@ fn answer(at: usize, given: usize) -> Ended
                 }
             }
             return check(at + 1, at + 2);
+        }
+    }
+    if given == 3 {
+        if files::is_word(at, b"read") {
+            // A pack is no text: it goes to a file, and never to standard output.
+            if files::is_input(at + 2) {
+                return usage();
+            }
+            return read(at + 1, at + 2);
         }
     }
     if given == 2 {

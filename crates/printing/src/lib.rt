@@ -13,15 +13,20 @@ pub fn finished(written: bool) -> bool {
     written
 }
 
+// A number's line.
+pub fn number(n: u64) -> bool {
+    if !io::print_decimal(STDOUT_FILENO, n) {
+        return false;
+    }
+    io::write_all(STDOUT_FILENO, b"\n")
+}
+
 // `refused` and the number.
 pub fn refused(x: Refusal) -> bool {
     if !io::write_all(STDOUT_FILENO, b"refused ") {
         return false;
     }
-    if !io::print_decimal(STDOUT_FILENO, records::number(x) as u64) {
-        return false;
-    }
-    io::write_all(STDOUT_FILENO, b"\n")
+    number(records::number(x) as u64)
 }
 
 fn wide(x: u8) -> u64

@@ -28,7 +28,9 @@ pub fn tell(x: Refusal) -> bool {
         Refusal::Heavy => say(b"heavy: a form passes the limit\n"),
         Refusal::RuleRises => say(b"rule rises: a rule's left is not at least its right\n"),
         Refusal::PairStays => say(b"pair stays: a pair's left is not greater than its right\n"),
-        Refusal::ShortList => say(b"short list: the lent list cannot hold all pairs\n"),
+        Refusal::ShortList => say(
+            b"short list: the lent list cannot hold all pairs, or the lent buffer the pack of a text\n",
+        ),
         Refusal::BadText => say(b"bad text: a text is outside the grammar or too long\n"),
         Refusal::TextLimits => say(
             b"text limits: a name has two arities, or a count of the text is over its limit\n",
