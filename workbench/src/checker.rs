@@ -135,7 +135,7 @@ fn judge_length(file: &[u8], limit: usize) -> Result<(), u32> {
 }
 
 /// "A refusal is the number alone"
-fn demand(holds: bool, number: u32) -> Result<(), u32> {
+pub(crate) fn demand(holds: bool, number: u32) -> Result<(), u32> {
     if holds {
         Ok(())
     } else {

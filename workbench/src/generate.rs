@@ -1,21 +1,24 @@
-//! Seeded cases: packs, certificates, list rooms and arc questions of all kinds and sizes.
+//! Seeded cases: packs, certificates, list rooms, arc questions and solvers' texts of all kinds and sizes.
 
 pub mod limits;
 pub mod packs;
 pub mod spoil;
+pub mod texts;
 
 use crate::checker::{judge_pack, pairs, root, Pack, Pair};
 use crate::encode::{certificate_bytes, pack_bytes};
 use crate::random::Random;
 use packs::{Base, Size};
+use texts::TextQuestion;
 
-/// Two files, a list's room and some arc questions.
+/// Two files, a list's room, some arc questions and some texts.
 #[derive(Clone, Debug)]
 pub struct Case {
     pub pack: Vec<u8>,
     pub certificate: Vec<u8>,
     pub room: usize,
     pub questions: Vec<[u32; 4]>,
+    pub texts: Vec<TextQuestion>,
 }
 
 /// The case of a seed, always the same.
@@ -37,7 +40,8 @@ pub fn case(seed: u64) -> Case {
     certificate.shrink_to_fit();
     let room = room(random, &pack);
     let questions = questions(random, &pack);
-    Case { pack, certificate, room, questions }
+    let texts = texts::questions(random, &base.pack);
+    Case { pack, certificate, room, questions, texts }
 }
 
 /// Percent of the bases that are left as they are made.

@@ -1,6 +1,6 @@
-//! The three questions, whoever answers them.
+//! The four questions, whoever answers them.
 
-use crate::{checker, encode, tuned};
+use crate::{checker, encode, solver_text, tuned};
 
 /// One implementation of the loader.
 pub trait Implementation {
@@ -11,9 +11,14 @@ pub trait Implementation {
     fn list(&self, pack: &[u8], list: &mut [u8]) -> (u32, u32);
     /// Number, and 1 for yes; the question is rule, place, other rule, other place.
     fn arc(&self, pack: &[u8], question: [u32; 4]) -> (u32, u32);
+    /// Number and length of the solver's text's pack; fills the lent buffer only if the number is 0. None by default:
+    /// not all of them read texts.
+    fn read_text(&self, _text: &[u8], _pack: &mut [u8]) -> Option<(u32, u32)> {
+        None
+    }
 }
 
-/// The plain checker of `checker.rs`.
+/// The plain checker of `checker.rs`, and the plain reader of `solver_text.rs`.
 pub struct Checker;
 
 impl Implementation for Checker {
@@ -42,6 +47,16 @@ impl Implementation for Checker {
             Ok(yes) => (0, u32::from(yes)),
             Err(number) => (number, 0),
         }
+    }
+
+    fn read_text(&self, text: &[u8], pack: &mut [u8]) -> Option<(u32, u32)> {
+        Some(match solver_text::read_text(text, pack.len()) {
+            Ok(bytes) => {
+                pack[..bytes.len()].copy_from_slice(&bytes);
+                (0, bytes.len() as u32)
+            }
+            Err(number) => (number, 0),
+        })
     }
 }
 

@@ -9,8 +9,11 @@ pub mod implementation;
 #[cfg(feature = "library")]
 pub mod library;
 pub mod random;
+pub mod renumber;
 pub mod report;
 pub mod search;
 pub mod slow;
+pub mod slow_texts;
+pub mod solver_text;
 pub mod text;
 pub mod tuned;

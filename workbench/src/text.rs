@@ -8,12 +8,14 @@ mod certificate;
 mod disassemble;
 mod names;
 mod pack;
+mod solver;
 mod words;
 
 pub use certificate::assemble_certificate;
 pub use disassemble::{certificate_text, disassemble_certificate, disassemble_pack};
 pub use names::{declared_names, Names};
 pub use pack::assemble_pack;
+pub use solver::solver_text;
 pub use words::digits;
 
 /// The value, or what was found and what was wanted; whole texts put `line N: ` before it.

@@ -3,6 +3,8 @@
 use std::fs::{self, File};
 use std::path::{Path, PathBuf};
 use std::process::{Command, Output, Stdio};
+use workbench::checker::check;
+use workbench::solver_text::read_text;
 
 const ASSEMBLE: &str = env!("CARGO_BIN_EXE_assemble");
 const DISASSEMBLE: &str = env!("CARGO_BIN_EXE_disassemble");
@@ -232,15 +234,43 @@ fn search_finds_or_says_so() {
     fails(SEARCH, &[&example("wide.pack.txt")], 1);
 }
 
+/// What is found for a solver's text fits the pack that its reader makes; a pack's symbols are called by their numbers.
+#[test]
+fn search_takes_solvers_texts_and_packs() {
+    let folder = folder("search-texts");
+    let out = folder.join("out").to_str().unwrap().to_string();
+    let division = fs::read_to_string(example("division.trs")).unwrap();
+    // `record` starts a line of the workbench's own texts and is no name there.
+    let odd = write(&folder, "odd.trs", division.replace("minus", "record"));
+    let pack = read_text(division.as_bytes(), 1_000).unwrap();
+    for (text, pack, symbols) in [
+        (example("division.trs"), pack.clone(), "symbols minus/2 zero/0 s/1 quot/2\n"),
+        (odd, pack, "symbols f0/2 c1/0 c2/1 f3/2\n"),
+        (example("division.pack"), fs::read(example("division.pack")).unwrap(), "symbols c0/0 c1/1 f2/2 f3/2\n"),
+    ] {
+        let found = succeeds(SEARCH, &[&text]);
+        assert!(found.starts_with(symbols), "{found}");
+        succeeds(ASSEMBLE, &["cert", &write(&folder, "found.txt", found), &out]);
+        assert_eq!(check(&pack, &fs::read(&out).unwrap()), 0);
+    }
+    let wrong = write(&folder, "wrong.trs", "(VAR)(RULES f(a) -> f)");
+    assert!(fails(SEARCH, &[&wrong], 1).contains("refused with 16"));
+    assert!(fails(SEARCH, &[&example("texts/loose-variable.trs")], 1).contains("refused with 6"));
+    assert!(fails(SEARCH, &[&example("wide.pack")], 1).contains("refused with 3"));
+}
+
 // ---------------------------------------------------------------- the examples
 
 /// A copy of the shipped examples, to be spoilt.
 fn copied_examples(name: &str) -> PathBuf {
     let copy = folder(name);
-    for entry in fs::read_dir(example("")).unwrap() {
-        let entry = entry.unwrap();
-        if entry.file_type().unwrap().is_file() {
-            fs::copy(entry.path(), copy.join(entry.file_name())).unwrap();
+    fs::create_dir(copy.join("texts")).unwrap();
+    for part in ["", "texts"] {
+        for entry in fs::read_dir(example(part)).unwrap() {
+            let entry = entry.unwrap();
+            if entry.file_type().unwrap().is_file() {
+                fs::copy(entry.path(), copy.join(part).join(entry.file_name())).unwrap();
+            }
         }
     }
     copy
@@ -281,6 +311,22 @@ fn check_examples_tells_what_is_wrong() {
     spoilt(&copy, "expected-arcs.txt", "division.pack 1 0 1 0 0 no", 1, "(0, 1)");
     spoilt(&copy, "expected-arcs.txt", "division.pack 1 0 1 0 0 maybe", 2, "maybe");
     spoilt(&copy, "division.pairs", "3 3", 1, "division.pairs");
+    spoilt(&copy, "division.trs", "(COMMENT)", 1, "division.trs");
+    spoilt(&copy, "texts/nested.trs", "(COMMENT)", 1, "texts/nested.trs 33792 16 0");
+    spoilt(&copy, "expected-texts.txt", "division.trs 296 0 295", 1, "(0, 296)");
+    spoilt(&copy, "expected-texts.txt", "division.trs 296 14 0", 1, "(0, 296)");
+    spoilt(&copy, "expected-texts.txt", "division.trs 296 0", 2, "not understood");
+    let stray = write(&copy, "texts/new.trs", "(VAR)(RULES)");
+    assert!(fails(CHECK_EXAMPLES, &[path], 1).contains("texts/new.trs"));
+    fs::remove_file(stray).unwrap();
+    let stray = write(&copy, "new.trs", "(VAR)(RULES)");
+    assert!(fails(CHECK_EXAMPLES, &[path], 1).contains("new.trs has no good new.pack"));
+    fs::remove_file(stray).unwrap();
+    let text = fs::read(copy.join("division.trs")).unwrap();
+    fs::remove_file(copy.join("division.trs")).unwrap();
+    assert!(fails(CHECK_EXAMPLES, &[path], 1).contains("division.pack has no division.trs"));
+    write(&copy, "division.trs", text);
+    assert!(succeeds(CHECK_EXAMPLES, &[path]).contains("as expected"));
     let loose = write(&copy, "new.pack.txt", "symbols a/9\n");
     fails(CHECK_EXAMPLES, &[path], 1);
     fs::remove_file(loose).unwrap();

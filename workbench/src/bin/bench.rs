@@ -2,20 +2,22 @@
 //!
 //! Times differ from machine to machine, so no test should look at them: only ratios are printed.
 //! A busy machine spoils ratios too: run it twice and trust only what stays.
-//! `bench [rounds]`: more rounds, steadier ratios (20 by default).
+//! `bench [rounds]`: more rounds, steadier ratios (20 by default); texts in times of the plain reader.
 //! `bench --before [rounds]`: the same rows, of the library in times of an older one that `./bench --before` links,
 //! each summed over the copies of it.
 
 use std::hint::black_box;
 use std::process::ExitCode;
 use std::time::{Duration, Instant};
-use workbench::checker::{is_defined, judge_pack, pairs};
+use workbench::checker::{is_defined, judge_pack, pairs, PACK_LIMIT};
 use workbench::encode::{certificate_bytes, pack_bytes};
 use workbench::generate::packs::{dense, guided, Base, Size};
 use workbench::implementation::{all, library_and_before, Copies, Implementation};
 use workbench::random::Random;
 use workbench::report::{number, run, say, Arguments, Failure};
-use workbench::slow;
+use workbench::slow_texts::Side;
+use workbench::solver_text::TEXT_LIMIT;
+use workbench::{slow, slow_texts};
 
 const USAGE: &str =
     "bench [--before] [rounds], 1 to 10000, 20 by default; ./bench --before FILE.a [rounds] links FILE.a";
@@ -58,13 +60,7 @@ fn bench(arguments: Arguments) -> Result<(), Failure> {
         words => return Err(Failure::Usage(format!("{} words; at most one is wanted", words.len()))),
     };
     let before = arguments.has(BEFORE);
-    let implementations = if before {
-        let none = "no older library is linked; ./bench --before FILE.a links one";
-        library_and_before().ok_or_else(|| Failure::CouldNotRun(none.to_string()))?
-    } else {
-        all().into_iter().map(|one| vec![one]).collect()
-    };
-    let bench = Bench { implementations, rounds, before };
+    let bench = Bench { implementations: implementations(before)?, rounds, before };
     let what = if before { "the library in times of the one before" } else { "each in times of the tuned one" };
     say(format_args!("time of {what}; at the end the greatest number each answered\n"));
     bench.header("check");
@@ -79,6 +75,11 @@ fn bench(arguments: Arguments) -> Result<(), Failure> {
     for workload in workloads().iter().take(7) {
         bench.ratios(&workload.name, &|one| ask_all(one, workload));
     }
+    let readers = Bench { implementations: readers(before)?, rounds, before };
+    // An older library that reads no texts is no measure, nor is the plain reader for itself.
+    if readers.implementations.len() > 1 {
+        readers.texts();
+    }
     let own = if before { "" } else { ": time of each in times of its own time one line above" };
     say(format_args!("\ngrowth of check{own}\n"));
     bench.growth("pairs in one component", &[127, 255, 511, 1_023, 2_047], pairs_base);
@@ -86,6 +87,21 @@ fn bench(arguments: Arguments) -> Result<(), Failure> {
     bench.growth("components, weights differ", &[27, 54, 109, 218, 437], |count| slow::chains(count, true));
     bench.growth("components, weights equal", &[27, 54, 109, 218, 437], |count| slow::chains(count, false));
     Ok(())
+}
+
+/// The library and the one before, or all that are compiled in.
+fn implementations(before: bool) -> Result<Vec<Copies>, Failure> {
+    if before {
+        let none = "no older library is linked; ./bench --before FILE.a links one";
+        return library_and_before().ok_or_else(|| Failure::CouldNotRun(none.to_string()));
+    }
+    Ok(all().into_iter().map(|one| vec![one]).collect())
+}
+
+/// Those of them that read texts.
+fn readers(before: bool) -> Result<Vec<Copies>, Failure> {
+    let reads = |copies: &Copies| copies[0].read_text(&[], &mut []).is_some();
+    Ok(implementations(before)?.into_iter().filter(reads).collect())
 }
 
 // ---------------------------------------------------------------- files
@@ -135,6 +151,36 @@ fn pairs_base(count: usize) -> Base {
     base
 }
 
+/// Solvers' texts that are read one after the other.
+struct Texts {
+    name: String,
+    texts: Vec<Vec<u8>>,
+}
+
+fn text(name: &str, text: Vec<u8>) -> Texts {
+    Texts { name: name.to_string(), texts: vec![text] }
+}
+
+/// As people and solvers write them; the second is the measure of the worst.
+fn ordinary_texts() -> [Texts; 3] {
+    [
+        Texts { name: "a small text".to_string(), texts: vec![slow_texts::SMALL.into(); 50] },
+        text("an ordinary text of 32 KB", slow_texts::ordinary(4)),
+        text("the same, 300 names in VAR", slow_texts::ordinary(300)),
+    ]
+}
+
+/// The slowest texts known, all of the greatest length.
+fn worst_texts() -> Vec<Texts> {
+    let names = slow_texts::many_names().into_iter().map(|(name, bytes)| text(&format!("names: {name}"), bytes));
+    let overfull = [text("names: more than the table holds", slow_texts::overfull())];
+    let nested = [
+        text("nested, closed", slow_texts::closed(Side::Left, "a(", TEXT_LIMIT)),
+        text("nested, unclosed", slow_texts::unclosed(Side::Left, "a(", TEXT_LIMIT)),
+    ];
+    names.chain(overfull).chain(nested).collect()
+}
+
 // ---------------------------------------------------------------- jobs
 
 fn check_all(one: &dyn Implementation, workload: &Workload) -> u32 {
@@ -153,6 +199,12 @@ fn ask_all(one: &dyn Implementation, workload: &Workload) -> u32 {
     answers.fold(0, u32::max)
 }
 
+fn read_all(one: &dyn Implementation, texts: &[Vec<u8>]) -> u32 {
+    let mut pack = [0; PACK_LIMIT];
+    let answers = texts.iter().map(|text| one.read_text(black_box(text), &mut pack).map_or(0, |answer| answer.0));
+    answers.fold(0, u32::max)
+}
+
 // ---------------------------------------------------------------- measuring
 
 impl Bench {
@@ -168,12 +220,27 @@ impl Bench {
         self.implementations.len() - usize::from(self.before)
     }
 
-    /// One line: all in times of the tuned one, or the library in times of the one before.
-    fn ratios(&self, name: &str, job: Job) {
+    /// One line: all in times of the tuned one, or of the first where that is missing, or the library in times of the
+    /// one before. Answers the times.
+    fn ratios(&self, name: &str, job: Job) -> Vec<Duration> {
         let times = self.measure(job);
         let unit = if self.before { "before" } else { "tuned" };
         let unit = times[self.implementations.iter().position(|copies| copies[0].name() == unit).unwrap_or(0)];
         self.line(name, times.iter().take(self.shown()).map(|time| Some(time.div_duration_f64(unit))), job);
+        times
+    }
+
+    /// One line a text, in times of the plain reader; and the worst text in times of an ordinary one, by the library.
+    fn texts(&self) {
+        self.header("\nread text");
+        let row = |texts: &Texts| self.ratios(&texts.name, &|one| read_all(one, &texts.texts));
+        let ordinary = ordinary_texts().each_ref().map(row);
+        let worst: Vec<Vec<Duration>> = worst_texts().iter().map(row).collect();
+        if let (false, Some(unit)) = (self.before, ordinary[1].last()) {
+            let longest = worst.iter().filter_map(|times| times.last()).max().unwrap_or(unit);
+            let ratio = longest.div_duration_f64(*unit);
+            say(format_args!("\nlibrary: the worst text in times of the ordinary one of 32 KB: {ratio:.2}"));
+        }
     }
 
     /// One line a size, each in times of the line above, or the library in times of the one before.

@@ -4,6 +4,7 @@
 //! the tuned one, or against the library if that is compiled in.
 
 use std::process::ExitCode;
+use workbench::generate::texts::TextQuestion;
 use workbench::generate::{case, Case};
 use workbench::implementation::{by_name, Implementation};
 use workbench::report::{number, run, say, Arguments, Failure};
@@ -15,15 +16,19 @@ const COUNT: u64 = 200_000;
 const SEED: u64 = 1;
 const OTHER: &str = if cfg!(feature = "library") { "library" } else { "tuned" };
 
-/// What stands in a lent list before the call.
+/// What stands in a lent list or buffer before the call.
 const PATTERN: u8 = 0xA7;
+
+/// How often each number came; the last place is for all that should not come.
+type Numbers = [u64; 18];
 
 /// How often each answer came.
 #[derive(Default)]
 struct Counts {
-    checks: [u64; 16],
-    lists: [u64; 16],
-    arcs: [u64; 16],
+    checks: Numbers,
+    lists: Numbers,
+    arcs: Numbers,
+    texts: Numbers,
     yes: u64,
 }
 
@@ -96,6 +101,9 @@ fn compare(
         count(&mut counts.arcs, answers.0 .0);
         counts.yes += u64::from(answers.0 .1 == 1);
     }
+    for question in &case.texts {
+        compare_texts(one, other, question, counts)?;
+    }
     Ok(())
 }
 
@@ -118,6 +126,28 @@ fn compare_lists(
     Ok(())
 }
 
+/// All bytes of the buffers must be the same, and the pattern where no pack is; nothing if one of them reads no texts.
+fn compare_texts(
+    one: &dyn Implementation,
+    other: &dyn Implementation,
+    TextQuestion { text, room }: &TextQuestion,
+    counts: &mut Counts,
+) -> Result<(), String> {
+    let mut packs = (vec![PATTERN; *room], vec![PATTERN; *room]);
+    let answers = (one.read_text(text, &mut packs.0), other.read_text(text, &mut packs.1));
+    let (Some(first), Some(second)) = answers else {
+        return Ok(());
+    };
+    let what = format!("text of {} bytes, {room} lent", text.len());
+    same(&what, first, second)?;
+    count(&mut counts.texts, first.0);
+    let kept = |pack: &[u8]| pack.get(first.1 as usize..).is_some_and(|rest| rest.iter().all(|byte| *byte == PATTERN));
+    if packs.0 != packs.1 || !kept(&packs.0) {
+        return Err(format!("{what}: the packs differ, or the bytes after them changed"));
+    }
+    Ok(())
+}
+
 fn same<T: PartialEq + std::fmt::Debug>(what: &str, one: T, other: T) -> Result<(), String> {
     if one == other {
         Ok(())
@@ -126,23 +156,26 @@ fn same<T: PartialEq + std::fmt::Debug>(what: &str, one: T, other: T) -> Result<
     }
 }
 
-fn count(counts: &mut [u64; 16], number: u32) {
-    counts[number.min(15) as usize] += 1;
+fn count(counts: &mut Numbers, number: u32) {
+    counts[(number as usize).min(counts.len() - 1)] += 1;
 }
 
-/// Both files of a case as text.
+/// Both files of a case as text, and its texts with what is no letter escaped.
 fn show(case: &Case) {
     let certificate = disassemble_certificate(&case.certificate, &case.pack);
     say(format_args!("--- pack, {} bytes\n{}", case.pack.len(), disassemble_pack(&case.pack)));
     say(format_args!("--- certificate, {} bytes\n{certificate}", case.certificate.len()));
+    for TextQuestion { text, room } in &case.texts {
+        say(format_args!("--- text, {} bytes, {room} lent\n{}", text.len(), text.escape_ascii()));
+    }
 }
 
 impl Counts {
     fn print(&self) {
-        say(format_args!("{:>6} {:>9} {:>9} {:>9}", "answer", "checks", "lists", "arcs"));
-        for number in 0..15 {
-            let (checks, lists, arcs) = (self.checks[number], self.lists[number], self.arcs[number]);
-            say(format_args!("{number:>6} {checks:>9} {lists:>9} {arcs:>9}"));
+        say(format_args!("{:>6} {:>9} {:>9} {:>9} {:>9}", "answer", "checks", "lists", "arcs", "texts"));
+        for number in 0..17 {
+            let [checks, lists, arcs, texts] = [self.checks, self.lists, self.arcs, self.texts].map(|all| all[number]);
+            say(format_args!("{number:>6} {checks:>9} {lists:>9} {arcs:>9} {texts:>9}"));
         }
         say(format_args!("{} of the arc answers 0 are yes, {} no", self.yes, self.arcs[0] - self.yes));
     }

@@ -2,6 +2,9 @@
 //! bytes (or writes them), and holds all implementations to the expected answers.
 //!
 //! The texts that `loose.txt` names are wrong on purpose: strict mode must refuse them, loose mode assembles them.
+//! Each good pack has a solver's text, which must give the same pack but for the numbers of symbols and variables.
+
+mod texts;
 
 use std::path::{Path, PathBuf};
 use std::process::ExitCode;
@@ -19,6 +22,8 @@ const USAGE: &str = "check-examples [--write] [FOLDER]";
 const WRITE: &str = "--write";
 /// The texts that only loose mode assembles.
 const LOOSE_LIST: &str = "loose.txt";
+/// What the check says of packs and certificates.
+const CHECKS: &str = "expected.txt";
 /// No lent list is larger.
 const ROOM_LIMIT: u32 = 1 << 20;
 
@@ -33,15 +38,21 @@ fn check_examples(arguments: Arguments) -> Answer<()> {
         words => return Err(Failure::Usage(format!("{} words; at most one is wanted", words.len()))),
     };
     let files = assemble_all(&folder, arguments.has(WRITE))?;
+    if arguments.has(WRITE) {
+        texts::write_all(&folder)?;
+    }
+    let solver_texts = texts::count(&folder)?;
     let mut asked = 0;
     for implementation in all() {
         asked += checks(&folder, implementation.as_ref())?;
         asked += lists(&folder, implementation.as_ref())?;
         asked += arcs(&folder, implementation.as_ref())?;
         asked += pair_files(&folder, implementation.as_ref())?;
+        asked += texts::ask(&folder, implementation.as_ref())?;
     }
     let names: Vec<&str> = all().iter().map(|one| one.name()).collect();
-    say(format_args!("{files} files as their texts say; {asked} answers of {} as expected", names.join(", ")));
+    let files = format!("{files} files as their texts say, {solver_texts} solvers' texts");
+    say(format_args!("{files}; {asked} answers of {} as expected", names.join(", ")));
     Ok(())
 }
 
@@ -158,10 +169,10 @@ fn room(word: &str) -> Answer<usize> {
 
 /// `pack certificate answer`
 fn checks(folder: &Path, implementation: &dyn Implementation) -> Answer<usize> {
-    let lines = table(folder, "expected.txt")?;
+    let lines = table(folder, CHECKS)?;
     for line in &lines {
         let [pack, certificate, answer] = &line[..] else {
-            return Err(odd_line("expected.txt", line));
+            return Err(odd_line(CHECKS, line));
         };
         let got = implementation.check(&read(folder.join(pack))?, &read(folder.join(certificate))?);
         expect(implementation, line, number(answer)?, got)?;

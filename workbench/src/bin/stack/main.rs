@@ -4,25 +4,29 @@
 //! the lowest place that lost its paint was taken. The wrapper of `library.rs` is measured along, some sixty bytes;
 //! what the lowest frame of all leaves unwritten at its end is not seen, less than a frame of some hundred bytes.
 //! Prints the most that each function took, and fails unless that is below the header's TELDYZHOM_STACK_BYTES and
-//! README.md states the same figure.
+//! README.md states the same figure; the reader of texts has a bound of its own besides.
 
-use std::ffi::{c_int, c_ulong, c_void};
+mod painted;
+
+use painted::Stack;
 use std::path::Path;
 use std::process::ExitCode;
-use workbench::checker::{judge_pack, pairs};
+use workbench::checker::{judge_pack, pairs, PACK_LIMIT};
 use workbench::encode::{certificate_bytes, pack_bytes};
 use workbench::files::read;
 use workbench::generate::packs::{dense, Base};
 use workbench::generate::{case, Case};
-use workbench::implementation::Implementation;
+use workbench::implementation::{Checker, Implementation};
 use workbench::library::LIBRARY;
 use workbench::random::Random;
 use workbench::report::{self, say, Arguments, Failure};
-use workbench::slow;
+use workbench::{slow, slow_texts};
 
-const HEADER: &str = include_str!("../../../include/teldyzhom.h");
-const README: &str = include_str!("../../../README.md");
+const HEADER: &str = include_str!("../../../../include/teldyzhom.h");
+const README: &str = include_str!("../../../../README.md");
 
+/// The bound for reading a text alone, below the one for all.
+const READ_TEXT_LIMIT: usize = 32_768;
 /// How many generated cases are asked.
 const SEEDS: u64 = 2_000;
 /// A list of so many bytes always suffices.
@@ -43,6 +47,9 @@ fn measure_all(arguments: Arguments) -> Outcome<()> {
     for file in slow_files().into_iter().chain(deep_files()).chain(example_files()?) {
         most.ask(&mut stack, &file)?;
     }
+    for (name, text) in hostile_texts().into_iter().chain(examples(".trs")?) {
+        most.read_text(&mut stack, &name, &text, PACK_LIMIT)?;
+    }
     for seed in 1..=SEEDS {
         most.ask(&mut stack, &generated(seed))?;
     }
@@ -50,6 +57,8 @@ fn measure_all(arguments: Arguments) -> Outcome<()> {
     let limit = stated_limit()?;
     most.held_to(limit)?;
     say(format_args!("each below the {} bytes that the header and README.md state", with_commas(limit)));
+    most.reading_held_to(READ_TEXT_LIMIT)?;
+    say(format_args!("teldyzhom_read_text below {}", with_commas(READ_TEXT_LIMIT)));
     Ok(())
 }
 
@@ -124,7 +133,7 @@ fn asked(pack: Vec<u8>, certificate: Vec<u8>) -> Case {
     let (first, last) = (all.first().copied().unwrap_or_default(), all.last().copied().unwrap_or_default());
     let questions = [(first, last), (last, first), (first, first)];
     let questions = questions.map(|(from, to)| [from.0, from.1, to.0, to.1].map(u32::from)).to_vec();
-    Case { pack, certificate, room: LIST_ENOUGH, questions }
+    Case { pack, certificate, room: LIST_ENOUGH, questions, texts: Vec::new() }
 }
 
 /// Each pack of the examples with each certificate, whether or not they belong together.
@@ -161,6 +170,13 @@ fn examples(end: &str) -> Outcome<Vec<(String, Vec<u8>)>> {
     Ok(files)
 }
 
+/// The deepest texts, and those with the most names.
+fn hostile_texts() -> Vec<(String, Vec<u8>)> {
+    let names = slow_texts::many_names().into_iter().map(|(name, text)| (name.to_string(), text));
+    let overfull = [("more names than the table holds".to_string(), slow_texts::overfull())];
+    slow_texts::deep().into_iter().chain(names).chain(overfull).collect()
+}
+
 fn generated(seed: u64) -> File {
     File { name: format!("case {seed}"), case: case(seed), number: None }
 }
@@ -179,12 +195,21 @@ struct Most {
     check: Record,
     list: Record,
     arc: Record,
+    read_text: Record,
 }
 
 impl Record {
     fn note(&mut self, bytes: usize, name: &str) {
         if bytes > self.bytes {
             *self = Record { bytes, name: name.to_string() };
+        }
+    }
+
+    fn held_to(&self, limit: usize, function: &str) -> Outcome<()> {
+        if self.bytes < limit {
+            Ok(())
+        } else {
+            Err(refused(format!("teldyzhom_{function} takes not less than {}", with_commas(limit))))
         }
     }
 }
@@ -202,11 +227,23 @@ impl Most {
         for question in &case.questions {
             self.arc.note(stack.measure(|| LIBRARY.arc(&case.pack, *question))?.0, &file.name);
         }
+        case.texts.iter().try_for_each(|asked| self.read_text(stack, &file.name, &asked.text, asked.room))
+    }
+
+    /// The number must be the plain reader's, so that no text is read by half.
+    fn read_text(&mut self, stack: &mut Stack, name: &str, text: &[u8], room: usize) -> Outcome<()> {
+        let mut pack = vec![0; room];
+        let (bytes, answer) = stack.measure(|| LIBRARY.read_text(text, &mut pack))?;
+        let expected = Checker.read_text(text, &mut pack);
+        if answer != expected {
+            return Err(refused(format!("{name}: the text's answer is {answer:?}, not {expected:?}")));
+        }
+        self.read_text.note(bytes, name);
         Ok(())
     }
 
-    fn each(&self) -> [(&str, &Record); 3] {
-        [("check", &self.check), ("list", &self.list), ("arc", &self.arc)]
+    fn each(&self) -> [(&str, &Record); 4] {
+        [("check", &self.check), ("list", &self.list), ("arc", &self.arc), ("read_text", &self.read_text)]
     }
 
     fn print(&self) {
@@ -216,113 +253,10 @@ impl Most {
     }
 
     fn held_to(&self, limit: usize) -> Outcome<()> {
-        match self.each().iter().find(|(_, record)| record.bytes >= limit) {
-            None => Ok(()),
-            Some((function, _)) => {
-                Err(refused(format!("teldyzhom_{function} takes not less than {}", with_commas(limit))))
-            }
-        }
-    }
-}
-
-// ---------------------------------------------------------------- painted stacks
-
-const WORD: usize = size_of::<u64>();
-const PAGE_WORDS: usize = 4_096 / WORD;
-/// 256 KiB, so that far more than the limit is still measured.
-const PAGES: usize = 64;
-/// A word that no call is likely to leave behind.
-const PAINT: u64 = 0xA7C3_915E_7B2D_F068;
-
-#[repr(C, align(4096))]
-#[derive(Clone, Copy)]
-struct Page([u64; PAGE_WORDS]);
-
-/// Room for a `pthread_attr_t`, which has 56 bytes.
-#[repr(C, align(16))]
-struct Attributes([u64; 16]);
-
-extern "C" {
-    fn pthread_attr_init(attributes: *mut Attributes) -> c_int;
-    fn pthread_attr_setstack(attributes: *mut Attributes, lowest: *mut c_void, size: usize) -> c_int;
-    fn pthread_attr_destroy(attributes: *mut Attributes) -> c_int;
-    fn pthread_create(
-        thread: *mut c_ulong,
-        attributes: *const Attributes,
-        start: extern "C" fn(*mut c_void) -> *mut c_void,
-        argument: *mut c_void,
-    ) -> c_int;
-    fn pthread_join(thread: c_ulong, answer: *mut *mut c_void) -> c_int;
-}
-
-/// What a thread shall do, and where its first frame was.
-struct Job<'a> {
-    work: &'a mut dyn FnMut(),
-    frame: usize,
-}
-
-/// The thread's first frame: what lies below it the work has taken.
-extern "C" fn start(argument: *mut c_void) -> *mut c_void {
-    // The thread that made the job waits for this one and leaves the job alone.
-    let job = unsafe { &mut *argument.cast::<Job>() };
-    let here = 0_u8;
-    job.frame = std::hint::black_box(&raw const here) as usize;
-    (job.work)();
-    std::ptr::null_mut()
-}
-
-/// The stack that all measured threads use, one after the other.
-struct Stack {
-    pages: Vec<Page>,
-}
-
-impl Stack {
-    fn new() -> Stack {
-        Stack { pages: vec![Page([PAINT; PAGE_WORDS]); PAGES] }
+        self.each().iter().try_for_each(|(function, record)| record.held_to(limit, function))
     }
 
-    /// The bytes of stack that the work took, and its answer.
-    fn measure<T>(&mut self, work: impl FnOnce() -> T) -> Outcome<(usize, T)> {
-        self.pages.fill(Page([PAINT; PAGE_WORDS]));
-        let (mut work, mut answer) = (Some(work), None);
-        let mut run = || answer = work.take().map(|work| work());
-        let mut job = Job { work: &mut run, frame: 0 };
-        self.run(&mut job)?;
-        let bytes = job.frame.checked_sub(self.lowest()?);
-        let bytes = bytes.ok_or_else(|| could_not_run("the thread ran on another stack"))?;
-        Ok((bytes, answer.ok_or_else(|| could_not_run("the thread did nothing"))?))
-    }
-
-    /// The lowest address that lost its paint.
-    fn lowest(&self) -> Outcome<usize> {
-        let kept = self.pages.iter().flat_map(|page| page.0).take_while(|word| *word == PAINT).count();
-        if kept == 0 {
-            return Err(refused("a call took the whole stack that was lent to it"));
-        }
-        Ok(self.pages.as_ptr() as usize + kept * WORD)
-    }
-
-    fn run(&mut self, job: &mut Job) -> Outcome<()> {
-        let mut attributes = Attributes([0; 16]);
-        let size = size_of_val(self.pages.as_slice());
-        // The pages, the attributes and the job outlive the thread, which is waited for here.
-        unsafe {
-            done("pthread_attr_init", pthread_attr_init(&mut attributes))?;
-            let lowest = self.pages.as_mut_ptr().cast();
-            done("pthread_attr_setstack", pthread_attr_setstack(&mut attributes, lowest, size))?;
-            let mut thread = 0;
-            let argument = (&raw mut *job).cast();
-            done("pthread_create", pthread_create(&mut thread, &attributes, start, argument))?;
-            done("pthread_join", pthread_join(thread, std::ptr::null_mut()))?;
-            done("pthread_attr_destroy", pthread_attr_destroy(&mut attributes))
-        }
-    }
-}
-
-fn done(call: &str, code: c_int) -> Outcome<()> {
-    if code == 0 {
-        Ok(())
-    } else {
-        Err(could_not_run(format!("{call} failed with {code}")))
+    fn reading_held_to(&self, limit: usize) -> Outcome<()> {
+        self.read_text.held_to(limit, "read_text")
     }
 }
