@@ -11,7 +11,7 @@ use Rattle.records.specs.declared.Record.{Record}
 use Rattle.records.specs.Outcomes.{Outcome, refused, passed, after}
 use Rattle.records.specs.Order.{V-variable, index, may-follow}
 use Rattle.records.proofs.Outcomes.{not-passed, passed-same, test-held}
-use Rattle.records.proofs.Table.{Kind, is-S, is-R, is-F, is-V, is-C, is-P, is-W, is-M, is-other, kind-of}
+use Rattle.records.proofs.Table.{Kind, is-S, is-R, is-F, is-V, is-C, is-P, is-W, is-M, is-L, is-other, kind-of}
 use Rattle.terms.specs.Sides.{Node, variable, symbol}
 use Rattle.terms.specs.Kept.{code, codes}
 use Rattle.packs.specs.PackReading.{variable-count, node-zeros, node-of}
@@ -67,6 +67,7 @@ kind-row is-C l h a = absurd (omega arith)
 kind-row is-P l h a = absurd (omega arith)
 kind-row is-W l h a = absurd (omega arith)
 kind-row is-M l h a = absurd (omega arith)
+kind-row is-L l h a = absurd (omega arith)
 kind-row (is-other k m _) l h a = absurd (omega (arith, m))
 
 -- inside a rule a record that may stand has the row of the node that it comes to

@@ -13,7 +13,7 @@ use Rattle.rewriting.proofs.Basics.{by-test, same-test, or-cases}
 use Rattle.records.specs.declared.Record.{Record}
 use Rattle.records.specs.Outcomes.{Outcome, refused, passed, after}
 use Rattle.records.specs.Order.{F-application, V-variable, index, may-follow}
-use Rattle.records.proofs.Table.{Kind, is-S, is-R, is-F, is-V, is-C, is-P, is-W, is-M, is-other, kind-of}
+use Rattle.records.proofs.Table.{Kind, is-S, is-R, is-F, is-V, is-C, is-P, is-W, is-M, is-L, is-other, kind-of}
 use Rattle.terms.specs.Sides.{Node, variable, symbol}
 use Rattle.packs.specs.PackReading.{variable-count, node-zeros, node-in-range, node-of}
 use Rattle.packs.specs.TermReading.{node-kind, term-nodes}
@@ -34,6 +34,7 @@ row-node is-C l h = absurd (omega arith)
 row-node is-P l h = absurd (omega arith)
 row-node is-W l h = absurd (omega arith)
 row-node is-M l h = absurd (omega arith)
+row-node is-L l h = absurd (omega arith)
 row-node (is-other k e f) l h = absurd (omega (arith, e))
 
 row-within : (x : Node) → (3 ≤ node-row x) × (node-row x < 5)

@@ -21,7 +21,7 @@ use Rattle.records.specs.Outcomes.{Outcome, refused, passed, after, unless}
 use Rattle.records.specs.Records.{a-record}
 use Rattle.records.specs.Order.{S-symbol, R-rule, index, entry, order, when-in, lets, may-follow, pack-edge, last-row}
 use Rattle.records.proofs.Outcomes.{not-passed, passed-same, refused-same, test-held, after-passed, after-refused}
-use Rattle.records.proofs.Table.{Kind, is-S, is-R, is-F, is-V, is-C, is-P, is-W, is-M, is-other, kind-of}
+use Rattle.records.proofs.Table.{Kind, is-S, is-R, is-F, is-V, is-C, is-P, is-W, is-M, is-L, is-other, kind-of}
 use Rattle.terms.specs.Sides.{Node, variable, symbol, flat, side}
 use Rattle.terms.proofs.Parsing.{Node-fits, side-flat, side-nodes, side-term}
 use Rattle.packs.specs.PackReading.{Pack-reading, between-rules, most-symbols, most-arity, most-rules, variable-count, symbol-read, side-count, rule-read, node-zeros, node-in-range, rule-of, rule-ended, node-read, pack-step, pack-end, pack-from, pack-steps}
@@ -267,6 +267,7 @@ tested-stands s _ one a b c is-C row h = foreign _ 6 _ row (omega arith) (omega 
 tested-stands s _ one a b c is-P row h = foreign _ 7 _ row (omega arith) (omega arith) (and-left _ _ h)
 tested-stands s _ one a b c is-W row h = foreign _ 8 _ row (omega arith) (omega arith) (and-left _ _ h)
 tested-stands s _ one a b c is-M row h = foreign _ 9 _ row (omega arith) (omega arith) (and-left _ _ h)
+tested-stands s _ one a b c is-L row h = foreign _ 10 _ row (omega arith) (omega arith) (and-left _ _ h)
 tested-stands s _ one a b c (is-other k l m) row h = foreign _ _ _ row (omega arith) m (and-left _ _ h)
 
 standing : (s : So-far) → Good-so-far s → (r : Record) → stands-test r (reading s) ≡ true → Stands s r

@@ -16,7 +16,7 @@ use Rattle.records.specs.Outcomes.{refused, passed}
 use Rattle.records.specs.Records.{a-record}
 use Rattle.records.specs.Order.{S-symbol, R-rule, F-application, V-variable, columns, index, may-follow}
 use Rattle.records.proofs.Outcomes.{not-passed, passed-same, test-held, after-passed}
-use Rattle.records.proofs.Table.{Kind, is-S, is-R, is-F, is-V, is-C, is-P, is-W, is-M, is-other, kind-of, pack-apart, may-follow-entry}
+use Rattle.records.proofs.Table.{Kind, is-S, is-R, is-F, is-V, is-C, is-P, is-W, is-M, is-L, is-other, kind-of, pack-apart, may-follow-entry}
 use Rattle.terms.specs.Sides.{Node, variable, symbol, side}
 use Rattle.packs.specs.PackReading.{Pack-reading, between-rules, most-symbols, most-arity, most-rules, variable-count, symbol-read, side-count, rule-read, node-zeros, node-in-range, node-of, rule-of, rule-ended, node-read, pack-step, pack-from}
 use Rattle.packs.specs.Encoding.{node-record}
@@ -203,6 +203,7 @@ of-kind x y _ one a b c is-C row e = foreign (x .last) 6 (x .due) row (omega ari
 of-kind x y _ one a b c is-P row e = foreign (x .last) 7 (x .due) row (omega arith) (omega arith) (test-held _ _ _ e .0)
 of-kind x y _ one a b c is-W row e = foreign (x .last) 8 (x .due) row (omega arith) (omega arith) (test-held _ _ _ e .0)
 of-kind x y _ one a b c is-M row e = foreign (x .last) 9 (x .due) row (omega arith) (omega arith) (test-held _ _ _ e .0)
+of-kind x y _ one a b c is-L row e = foreign (x .last) 10 (x .due) row (omega arith) (omega arith) (test-held _ _ _ e .0)
 of-kind x y _ one a b c (is-other k l m) row e =
     let h : may-follow (x .last) (index k) (x .due) false ≡ true = test-held _ _ _ e .0 in
     foreign (x .last) (index k) (x .due) row (omega arith) m h

@@ -10,7 +10,7 @@ use lib.ListN.{length}
 use borrow.Author.Tests.{le-leb, eqb-true}
 use Rattle.rewriting.specs.Terms.{Rule}
 use Rattle.records.specs.Order.{S-symbol, R-rule, index, entry, order, when-in, lets, may-follow}
-use Rattle.records.proofs.Table.{Kind, is-S, is-R, is-F, is-V, is-C, is-P, is-W, is-M, is-other}
+use Rattle.records.proofs.Table.{Kind, is-S, is-R, is-F, is-V, is-C, is-P, is-W, is-M, is-L, is-other}
 use Rattle.terms.specs.Sides.{Node, variable, symbol}
 use Rattle.packs.proofs.OneRecord.{node-row, foreign}
 
@@ -129,6 +129,7 @@ inside-kind i is-C due h e = foreign _ 6 due (inside-row i) (omega arith) (omega
 inside-kind i is-P due h e = foreign _ 7 due (inside-row i) (omega arith) (omega arith) e
 inside-kind i is-W due h e = foreign _ 8 due (inside-row i) (omega arith) (omega arith) e
 inside-kind i is-M due h e = foreign _ 9 due (inside-row i) (omega arith) (omega arith) e
+inside-kind i is-L due h e = foreign _ 10 due (inside-row i) (omega arith) (omega arith) e
 inside-kind i (is-other _ l m) due h e = foreign _ _ due (inside-row i) (omega arith) m e
 
 -- and after it the rule goes on
@@ -147,4 +148,5 @@ between-kind b is-C e = foreign _ 6 0 (between-row b) (omega arith) (omega arith
 between-kind b is-P e = foreign _ 7 0 (between-row b) (omega arith) (omega arith) e
 between-kind b is-W e = foreign _ 8 0 (between-row b) (omega arith) (omega arith) e
 between-kind b is-M e = foreign _ 9 0 (between-row b) (omega arith) (omega arith) e
+between-kind b is-L e = foreign _ 10 0 (between-row b) (omega arith) (omega arith) e
 between-kind b (is-other _ l m) e = foreign _ _ 0 (between-row b) (omega arith) m e

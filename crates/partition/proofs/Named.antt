@@ -2,7 +2,7 @@
 use mathlib.Core.Path.{_≡_, refl, ap, _∙_}
 use mathlib.Core.Bool.{false}
 use mathlib.Core.List.{List, [], _∷_, _++_, map, map-append, append-assoc}
-use Prim.Native.Nat.{ℕ, suc, _%_, _<_}
+use Prim.Native.Nat.{ℕ, zero, suc, _%_, _<_}
 use native.Mathlib.Omega.{arith}
 use lib.Dec.{eqb}
 use lib.ListN.{length}
@@ -10,11 +10,11 @@ use Rattle.rewriting.specs.Pairs.{Pair}
 use Rattle.rewriting.proofs.Basics.{cond-false, Each, each-nil, each-cons, each-left, each-right}
 use Rattle.records.specs.declared.Record.{Record}
 use Rattle.records.specs.Records.{a-record}
-use Rattle.records.specs.Order.{C-component, W-weight, M-marked}
+use Rattle.records.specs.Order.{C-component, W-weight, M-marked, L-weighting}
 use Rattle.pairs.specs.Listing.{pair-record, pair-records}
 use Rattle.polynomials.specs.Polynomials.{Weight, Weighting}
 use Rattle.certificates.specs.Components.{Component}
-use Rattle.certificates.specs.Encoding.{weight-records, weighting-records, component-records}
+use Rattle.certificates.specs.Encoding.{weight-records, beginning, weighting-records, component-records}
 use Rattle.entries.specs.declared.Entry.{Entry}
 use Rattle.entries.specs.Entries.{numbered, entries-of}
 use Rattle.judging.specs.Judge.{all-pairs}
@@ -48,12 +48,20 @@ past-weights kind h k n (w ∷ ws) rs =
     ∙ ap (λ (m : ℕ). entries-of m (weight-records kind ws ++ rs)) (cond-false (suc n) n k)
     ∙ past-weights kind h k n ws rs
 
-past-weightings : (n : ℕ) (ws : List Weighting) (rs : List Record) → entries-of n (weighting-records ws ++ rs) ≡ entries-of n rs
+past-beginning : (n k : ℕ) (rs : List Record) → entries-of n (beginning k ++ rs) ≡ entries-of n rs
+unfolding beginning numbered
+past-beginning n zero rs = refl
+past-beginning n (suc k) rs = past n (a-record L-weighting (suc k) 0 0) rs refl
+
+past-weightings : (n k : ℕ) (ws : List Weighting) (rs : List Record) → entries-of n (weighting-records k ws ++ rs) ≡ entries-of n rs
 unfolding weighting-records
-past-weightings n [] rs = refl
-past-weightings n (w ∷ ws) rs =
-    rw (append-assoc (weight-records W-weight (w .weights)), append-assoc (weight-records M-marked (w .marked)))
-    (past-weights W-weight refl refl n (w .weights) _ ∙ past-weights M-marked refl refl n (w .marked) _ ∙ past-weightings n ws rs)
+past-weightings n k [] rs = refl
+past-weightings n k (w ∷ ws) rs =
+    rw (append-assoc (beginning k), append-assoc (weight-records W-weight (w .weights)), append-assoc (weight-records M-marked (w .marked)))
+    (past-beginning n k _
+    ∙ past-weights W-weight refl refl n (w .weights) _
+    ∙ past-weights M-marked refl refl n (w .marked) _
+    ∙ past-weightings n (suc k) ws rs)
 
 -- P RECORDS give the entries of their pairs
 
@@ -77,11 +85,11 @@ unfolding component-records entries-of entries-from all-pairs numbered
 entries-are n i [] small = refl
 entries-are n i (c ∷ cs) small =
     let later = component-records (suc i) cs in
-    let rest = weighting-records (c .weightings) ++ later in
+    let rest = weighting-records 0 (c .weightings) ++ later in
     past n (a-record C-component i (length (c .weightings)) (length (c .pairs))) (pair-records (c .pairs) ++ rest) refl
     ∙ pairs-named (suc n) rest (each-left (c .pairs) (all-pairs cs) small)
     ∙ ap (λ (es : List Entry). map (entry-of (suc n)) (c .pairs) ++ es)
-    (past-weightings (suc n) (c .weightings) later ∙ entries-are (suc n) (suc i) cs (each-right (c .pairs) (all-pairs cs) small))
+    (past-weightings (suc n) 0 (c .weightings) later ∙ entries-are (suc n) (suc i) cs (each-right (c .pairs) (all-pairs cs) small))
 
 named-back : (n : ℕ) (qs : List Pair) → map named (map (entry-of n) qs) ≡ qs
 named-back n [] = refl

@@ -14,7 +14,7 @@ use Rattle.records.specs.declared.Record.{Record}
 use Rattle.records.specs.declared.order.Row.{Row}
 use Rattle.records.specs.Rows.{column-at, bit, Says, Row-says}
 
--- a byte is one of the eight letters that may stand somewhere, or none of them
+-- a byte is one of the nine letters that may stand somewhere, or none of them
 pub data Kind : ℕ → Type 0 where
   is-S : Kind S-symbol
   is-R : Kind R-rule
@@ -24,7 +24,8 @@ pub data Kind : ℕ → Type 0 where
   is-P : Kind P-pair
   is-W : Kind W-weight
   is-M : Kind M-marked
-  is-other : (k : ℕ) → 10 ≤ index k → index k < columns → Kind k
+  is-L : Kind L-weighting
+  is-other : (k : ℕ) → 11 ≤ index k → index k < columns → Kind k
 
 letter : (k m : ℕ) → Kind m → (eqb k m ≡ false → Kind k) → Kind k
 letter k m this other = go (eqb k m) refl
@@ -44,11 +45,11 @@ kind-of k =
     (λ c. letter k P-pair is-P
     (λ p. letter k W-weight is-W
     (λ w. letter k M-marked is-M
-    (λ m. letter k D-counting (is-other D-counting (omega arith) (omega arith))
+    (λ m. letter k L-weighting is-L
+    (λ l. letter k D-counting (is-other D-counting (omega arith) (omega arith))
     (λ d. letter k I-innermost (is-other I-innermost (omega arith) (omega arith))
-    (λ i. letter k L-weighting (is-other L-weighting (omega arith) (omega arith))
-    (λ l.
-    let e : index k ≡ 13 = rw (s, r, f, v, c, p, w, m, d, i, l) in
+    (λ i.
+    let e : index k ≡ 13 = rw (s, r, f, v, c, p, w, m, l, d, i) in
     is-other k (omega arith) (omega arith))))))))))))
 
 -- THE TABLE
@@ -96,12 +97,12 @@ certificate-apart before next h k l =
     let f : 5 + (before - 5) ≡ before = omega arith in
     rw f at (zero-in 10 5 (λ i j. entry (5 + i) j) refl (before - 5) next (omega arith) l)
 
--- D, I, L and any other byte may stand nowhere
-pub other-nowhere : (before next : ℕ) → before < rows → 10 ≤ next → next < columns → entry before next ≡ 0
+-- D, I and any other byte may stand nowhere
+pub other-nowhere : (before next : ℕ) → before < rows → 11 ≤ next → next < columns → entry before next ≡ 0
 unfolding entry order when-in sum-below sum-of
 other-nowhere before next h k l =
-    let f : 10 + (next - 10) ≡ next = omega arith in
-    rw f at (zero-in rows 4 (λ i j. entry i (10 + j)) refl before (next - 10) h (omega arith))
+    let f : 11 + (next - 11) ≡ next = omega arith in
+    rw f at (zero-in rows 3 (λ i j. entry i (11 + j)) refl before (next - 11) h (omega arith))
 
 -- what may begin a certificate is what may begin its components
 pub starts-agree : (edge : ℕ) (rs : List Record) → obeys certificate-start edge rs ≡ obeys components-start edge rs
@@ -144,22 +145,25 @@ row-says before {row} {l} {d} {w} e (el, ed, ew) none =
     })
 
 -- the empty rows
-pub empty-misses : (before : ℕ) → 10 ≤ before → before < certificate-start → row-misses before 0 0 0 ≡ 0
+pub empty-misses : (before : ℕ) → 11 ≤ before → before < certificate-start → row-misses before 0 0 0 ≡ 0
 unfolding index entry order when-in lets may-follow column-at bit sum-below distance misses row-misses
 empty-misses before h l =
-    let f : 10 + (before - 10) ≡ before = omega arith in
-    rw f at (zero-below 4 (λ i. row-misses (10 + i) 0 0 0) refl (before - 10) (omega arith))
+    let f : 11 + (before - 11) ≡ before = omega arith in
+    rw f at (zero-below 3 (λ i. row-misses (11 + i) 0 0 0) refl (before - 11) (omega arith))
 
--- they are those that are left when eleven are not it; five at a time, since `omega` splits each
+-- they are those that are left when twelve are not it; five at a time, since `omega` splits each
 five-past : (b n : ℕ) → n ≤ b → (b ≡ n → ⊥) → (b ≡ n + 1 → ⊥) → (b ≡ n + 2 → ⊥) → (b ≡ n + 3 → ⊥) → (b ≡ n + 4 → ⊥) → n + 5 ≤ b
 five-past b n h n0 n1 n2 n3 n4 = omega arith
 
 pub rows-left : {U : Type 0} (b : ℕ) → b < rows
-    → ((((((((((U × (b ≡ 0 → ⊥)) × (b ≡ 1 → ⊥)) × (b ≡ 2 → ⊥)) × (b ≡ 3 → ⊥)) × (b ≡ 4 → ⊥)) × (b ≡ 5 → ⊥)) × (b ≡ 6 → ⊥)) × (b ≡ 7 → ⊥)) × (b ≡ 8 → ⊥)) × (b ≡ 9 → ⊥)) × (b ≡ 14 → ⊥)
-    → (10 ≤ b) × (b < certificate-start)
-rows-left b h (((((((((((_, n0), n1), n2), n3), n4), n5), n6), n7), n8), n9), last) =
-    (five-past b 5 (five-past b 0 (omega arith) n0 n1 n2 n3 n4) n5 n6 n7 n8 n9, before-last b h last)
+    → (((((((((((U × (b ≡ 0 → ⊥)) × (b ≡ 1 → ⊥)) × (b ≡ 2 → ⊥)) × (b ≡ 3 → ⊥)) × (b ≡ 4 → ⊥)) × (b ≡ 5 → ⊥)) × (b ≡ 6 → ⊥)) × (b ≡ 7 → ⊥)) × (b ≡ 8 → ⊥)) × (b ≡ 9 → ⊥)) × (b ≡ 10 → ⊥)) × (b ≡ 14 → ⊥)
+    → (11 ≤ b) × (b < certificate-start)
+rows-left b h ((((((((((((_, n0), n1), n2), n3), n4), n5), n6), n7), n8), n9), n10), last) =
+    (one-past b 10 (five-past b 5 (five-past b 0 (omega arith) n0 n1 n2 n3 n4) n5 n6 n7 n8 n9) n10, before-last b h last)
   where
+    one-past : (b n : ℕ) → n ≤ b → (b ≡ n → ⊥) → n + 1 ≤ b
+    one-past b n h no-n = omega arith
+
     before-last : (b : ℕ) → b < rows → (b ≡ certificate-start → ⊥) → b < certificate-start
     before-last b h last = omega arith
 

@@ -1,4 +1,4 @@
--- Which kind may stand after which: document 01's table, one for both files.
+-- Which kind may stand after which: the documents' table, one for both files.
 use mathlib.Core.Bool.{Bool, true, false, _&&_, cond}
 use mathlib.Core.List.{List, [], _∷_}
 use Prim.Native.Nat.{ℕ, zero, suc}
@@ -31,15 +31,16 @@ W-weight = 87
 abbrev pub M-marked : ℕ
 M-marked = 77
 
--- document 02's, which no row lets come
+-- document 02's
+abbrev pub L-weighting : ℕ
+L-weighting = 76
+
+-- and those that no row lets come yet
 abbrev pub D-counting : ℕ
 D-counting = 68
 
 abbrev pub I-innermost : ℕ
 I-innermost = 73
-
-abbrev pub L-weighting : ℕ
-L-weighting = 76
 
 -- a kind's row and column in the table; row 0 is the start of a pack, columns 0 and 5 are the ends of the files
 abbrev pub pack-edge : ℕ
@@ -72,14 +73,14 @@ W = 8
 abbrev M : ℕ
 M = 9
 
+abbrev L : ℕ
+L = 10
+
 abbrev D : ℕ
-D = 10
+D = 11
 
 abbrev I : ℕ
-I = 11
-
-abbrev L : ℕ
-L = 12
+I = 12
 
 -- any other byte
 abbrev other : ℕ
@@ -108,7 +109,7 @@ index k =
     (cond (eqb k P-pair) P
     (cond (eqb k W-weight) W
     (cond (eqb k M-marked) M
-    (cond (eqb k D-counting) D (cond (eqb k I-innermost) I (cond (eqb k L-weighting) L other))))))))))
+    (cond (eqb k L-weighting) L (cond (eqb k D-counting) D (cond (eqb k I-innermost) I other))))))))))
 
 -- What may come in a row, and when: 1 always, 2 while the count lasts (a rule's nodes, a component's pairs), 3 after it, 4 after it
 -- in a component with a weighting.
@@ -151,16 +152,20 @@ abbrev after-C : List May
 after-C = always P ∷ []
 
 abbrev after-P : List May
-after-P = inside-count P ∷ after-count C ∷ after-count certificate-edge ∷ when-weighted W ∷ when-weighted M ∷ []
+after-P = inside-count P ∷ after-count C ∷ after-count certificate-edge ∷ when-weighted W ∷ when-weighted M ∷ when-weighted L ∷ []
 
 abbrev after-W : List May
-after-W = always W ∷ always M ∷ always C ∷ always certificate-edge ∷ []
+after-W = always W ∷ always M ∷ always L ∷ always C ∷ always certificate-edge ∷ []
 
 abbrev after-M : List May
-after-M = always M ∷ always C ∷ always certificate-edge ∷ []
+after-M = always M ∷ always L ∷ always C ∷ always certificate-edge ∷ []
 
-abbrev after-D-I-or-L : List May
-after-D-I-or-L = []
+-- what may after W
+abbrev after-L : List May
+after-L = after-W
+
+abbrev after-D-or-I : List May
+after-D-or-I = []
 
 abbrev after-other : List May
 after-other = []
@@ -177,9 +182,9 @@ order =
     ∷ after-P
     ∷ after-W
     ∷ after-M
-    ∷ after-D-I-or-L
-    ∷ after-D-I-or-L
-    ∷ after-D-I-or-L
+    ∷ after-L
+    ∷ after-D-or-I
+    ∷ after-D-or-I
     ∷ after-other
     ∷ after-certificate-start
     ∷ []

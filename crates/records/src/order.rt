@@ -1,4 +1,4 @@
-// Which kind may stand after which: document 01's table, asked by both readers.
+// Which kind may stand after which: the documents' table, asked by both readers.
 ghost use mathlib.Core.Path.{_≡_};
 ghost use Prim.Native.Nat.{_/_, _%_, _^_, _<_};
 ghost use lib.Dec.{eqb};
@@ -24,6 +24,8 @@ pub const WEIGHT: usize = 8;
 
 pub const MARKED: usize = 9;
 
+pub const WEIGHTING: usize = 10;
+
 // The columns: the letters from A to Z, the ends of a pack and of a certificate, and one for every other byte.
 const LETTERS: usize = 26;
 
@@ -37,6 +39,8 @@ const OTHER: usize = LETTERS + 2;
 const C: u32 = 0x4;
 
 const F: u32 = 0x20;
+
+const L: u32 = 0x800;
 
 const M: u32 = 0x1000;
 
@@ -75,11 +79,13 @@ const AMONG_PAIRS: u32 = P;
 
 const AFTER_PAIRS: u32 = C + END_OF_CERTIFICATE;
 
-const AFTER_WEIGHTED_PAIRS: u32 = C + END_OF_CERTIFICATE + W + M;
+const AFTER_WEIGHTED_PAIRS: u32 = C + END_OF_CERTIFICATE + W + M + L;
 
-const AFTER_W: u32 = W + M + C + END_OF_CERTIFICATE;
+const AFTER_W: u32 = W + M + L + C + END_OF_CERTIFICATE;
 
-const AFTER_M: u32 = M + C + END_OF_CERTIFICATE;
+const AFTER_M: u32 = M + L + C + END_OF_CERTIFICATE;
+
+const AFTER_L: u32 = AFTER_W;
 
 // A row: the bits while the count lasts, after it, and after it in a component with a weighting.
 struct Row {
@@ -130,6 +136,7 @@ fn row_of(before: usize) -> Row
         },
         8 => ever(AFTER_W),
         9 => ever(AFTER_M),
+        10 => ever(AFTER_L),
         // The start of a certificate; the rows between are empty.
         14 => ever(AFTER_CERTIFICATE_START),
         _ => ever(0),

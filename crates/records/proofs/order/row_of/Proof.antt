@@ -23,6 +23,7 @@ row-of-spec =
     (λ c κs. search needs)
     (λ c κs. search needs)
     (λ c κs. search needs)
+    (λ c κs. search needs)
     (λ c. row-says 0 (c .before .match .keys1) (c .ever .ensures) refl)
     (λ c. row-says 1 (c .before .match .keys2) (c .ever2 .ensures) refl)
     (λ c. row-says 2 (c .before .match .keys3) (c .ever3 .ensures) refl)
@@ -33,7 +34,8 @@ row-of-spec =
     (λ c. row-says 7 (c .match .keys8) (refl, refl, refl) refl)
     (λ c. row-says 8 (c .before .match .keys9) (c .ever6 .ensures) refl)
     (λ c. row-says 9 (c .before .match .keys10) (c .ever7 .ensures) refl)
-    (λ c. row-says 14 (c .before .match .keys11) (c .ever8 .ensures) refl)
+    (λ c. row-says 10 (c .before .match .keys11) (c .ever8 .ensures) refl)
+    (λ c. row-says 14 (c .before .match .keys12) (c .ever9 .ensures) refl)
     (λ c.
     let left = rows-left _ (c .before .before .pre) (c .before .match .rest) in
-    row-says _ refl (c .ever9 .ensures) (empty-misses _ (left .0) (left .1))))
+    row-says _ refl (c .ever10 .ensures) (empty-misses _ (left .0) (left .1))))
