@@ -1,10 +1,11 @@
--- A certificate is refused with 2, 3 or 7 exactly if its first failure, in document 01's words, has this number. Records
+-- A certificate is refused with 2, 3 or 7 exactly if its first failure, in the documents' words, has this number. Records
 -- are read exactly if they are good so far, and what the reader then says to the next one is the one way in which that fails.
 use mathlib.Core.Path.{_≡_, refl, sym, ap, _∙_, subst}
 use mathlib.Core.Bool.{Bool, true, false, _&&_, not, cond, false≢true}
 use mathlib.Core.List.{List, [], _∷_, _++_, append-nil}
 use mathlib.Core.Option.{Option, none, some}
-use Prim.Native.Nat.{ℕ, _-_, _≤_, _<_}
+use Prim.Native.Nat.{ℕ, suc, _-_, _≤_, _<_}
+use native.Mathlib.Nat.{add-zero}
 use native.Mathlib.Omega.{arith}
 use lib.Dec.{ltb, leb, eqb}
 use lib.ListN.{length, getD, length-append}
@@ -15,20 +16,20 @@ use Rattle.rewriting.specs.Pairs.{is-pair, defined}
 use Rattle.rewriting.proofs.Basics.{by-test, not-both, cond-false, cond-second, and-both, ands, each-at}
 use Rattle.records.specs.declared.Record.{Record}
 use Rattle.records.specs.Outcomes.{Outcome, refused, passed, after, unless}
-use Rattle.records.specs.Order.{C-component, P-pair, W-weight, M-marked, certificate-edge, components-start, rows, index, entry, order, when-in, lets, may-follow, last-row}
+use Rattle.records.specs.Order.{C-component, P-pair, W-weight, M-marked, L-weighting, certificate-edge, components-start, rows, index, entry, order, when-in, lets, may-follow, last-row}
 use Rattle.records.specs.Rising.{last-below, rising}
 use Rattle.records.proofs.Outcomes.{not-passed, refused-same}
 use Rattle.records.proofs.Bytes.{All-in-range}
 use Rattle.pairs.specs.Listing.{a-pair, pair-records}
 use Rattle.polynomials.specs.Polynomials.{Weighting}
 use Rattle.certificates.specs.Components.{Component, no-weighting, last-weighting, weight-of, Weights-rise}
-use Rattle.certificates.specs.CertificateReading.{Certificate-reading, going-on, most-pairs, most-weightings, with-begun, components-of, has-weighting, component-read, pair-read, weights-below, is-place, weight-read, marked-read, inside-read, cert-step, cert-end, cert-from, components-from}
+use Rattle.certificates.specs.CertificateReading.{Certificate-reading, going-on, most-pairs, most-weightings, with-begun, components-of, has-weighting, component-read, pair-read, weights-below, is-place, weight-read, marked-read, weighting-read, inside-read, cert-step, cert-end, cert-from, components-from}
 use Rattle.certificates.specs.Encoding.{component-records, Good-weighting}
-use Rattle.certificates.specs.CertificateFailures.{So-far, nothing, within, so-far-records, Good-begun, Good-so-far, components, due, weighted, pairs-so-far, weights-so-far, marked-so-far, pair-of, Follows, Stands, stands-component, stands-pair, stands-weight, stands-marked, In-range, component-in-range, pair-in-range, weight-in-range, marked-in-range, Stray, Out-of-range, No-such-pair, First, Ends-early, Certificate-fails, stray-record, ends-early, out-of-range, no-such-pair}
+use Rattle.certificates.specs.CertificateFailures.{So-far, nothing, within, so-far-records, Good-begun, Good-so-far, components, due, weightings-begun, missing, weighted, pairs-so-far, weights-so-far, marked-so-far, pair-of, Follows, Stands, stands-component, stands-pair, stands-weight, stands-marked, stands-weighting, In-range, component-in-range, pair-in-range, weighting-in-range, weight-in-range, marked-in-range, Stray, Out-of-range, No-such-pair, First, Ends-early, Certificate-fails, stray-record, ends-early, out-of-range, no-such-pair}
 use Rattle.certificates.proofs.Rising.{rising-snoc, below-next}
-use Rattle.certificates.proofs.Shapes.{In-order, certificate-of-shaped, good-components-shaped, weightings-by, in-order-by}
+use Rattle.certificates.proofs.Shapes.{Begun, certificate-of-shaped, good-components-shaped, weightings-by, in-order-by}
 use Rattle.certificates.proofs.Encoding.{in-range-left, in-range-right, weightings-fit-back, components-fit-back}
-use Rattle.certificates.proofs.OneRecord.{nothing-read, counts-alone, alone-counts, Own-kind, own-C, own-P, own-W, own-M, own-kind, passes-reads, reads-row}
+use Rattle.certificates.proofs.OneRecord.{nothing-read, counts-alone, alone-counts, Own-kind, own-C, own-P, own-W, own-M, own-L, own-kind, passes-reads, reads-row}
 use Rattle.certificates.proofs.Places.{Fresh, fresh-by, fresh-again, stage-fresh, at-start}
 use Rattle.certificates.proofs.ReadBack.{Reads-all, reads-none, reads-both, all-read, all-read-row, begun-back, components-back}
 use Rattle.certificates.proofs.OnlyEncodings.{Reached, inside, reached-row, one-more}
@@ -38,44 +39,49 @@ use Rattle.certificates.proofs.OnlyEncodings as only
 
 unfoldable done-of : So-far → List Component
 done-of nothing = []
-done-of (within cs n c) = cs
+done-of (within cs n m c) = cs
 
 unfoldable begun-of : So-far → Option Component
 begun-of nothing = none
-begun-of (within cs n c) = some c
+begun-of (within cs n m c) = some c
 
 abbrev reader : So-far → Certificate-reading
-reader x = record { last = last-row components-start (so-far-records x); done = done-of x; begun = begun-of x; due = due x }
+reader x = record { last = last-row components-start (so-far-records x); done = done-of x; begun = begun-of x; due = due x; more = missing x }
 
 weighted-same : (x : So-far) → has-weighting (begun-of x) ≡ weighted x
 unfolding has-weighting begun-of weighted
 weighted-same nothing = refl
-weighted-same (within cs n c) = refl
+weighted-same (within cs n m c) = refl
 
 components-same : (x : So-far) → length (components-of (reader x)) ≡ components x
 unfolding components-of with-begun done-of begun-of components
 components-same nothing = refl
-components-same (within cs n c) = length-append cs (c ∷ []) ∙ omega arith
+components-same (within cs n m c) = length-append cs (c ∷ []) ∙ omega arith
 
 module _ (p : System) where
-  begun-in-order : (n : ℕ) (c : Component) → Good-begun p n c → In-order p c
-  begun-in-order n c g = in-order-by p c (g .pairs-rise) (g .are-pairs) (g .weightings-good)
+  good-begun : (n m : ℕ) (c : Component) → Good-begun p n m c → Begun p c (n - length (c .pairs)) m n
+  good-begun n m c g =
+      let within = g .pairs-within in
+      record {
+        counted = omega arith;
+        counts = record { weightings-few = g .weightings-few; pairs-some = g .count-some; pairs-few = g .count-few; alone = λ e. g .alone (omega arith) };
+        first-begun = g .first-begun;
+        in-order = in-order-by p c (g .pairs-rise) (g .are-pairs) (g .weightings-good);
+      }
 
-  begun-fresh : (n : ℕ) (c : Component) → Good-begun p n c → 1 ≤ n - length (c .pairs) → Fresh (c .weightings)
-  begun-fresh n c g h = subst Fresh (sym (g .weights-last (omega arith))) (fresh-by _ (g .weightings-few))
+  begun-fresh : (n m : ℕ) (c : Component) → Good-begun p n m c → 1 ≤ n - length (c .pairs) → Fresh (c .weightings)
+  begun-fresh n m c g h = subst Fresh (sym (g .weights-last (omega arith))) (fresh-by _)
 
   -- records that are good so far are read
   so-far-read : (x : So-far) → Good-so-far p x → Reads-all p nothing-read (so-far-records x) (reader x)
-  unfolding so-far-records Good-so-far done-of begun-of due last-row components-of with-begun
+  unfolding so-far-records Good-so-far done-of begun-of due missing last-row components-of with-begun
   so-far-read nothing g = reads-none nothing-read
-  so-far-read (within cs n c) (whole, begun) =
+  so-far-read (within cs n m c) (whole, begun) =
       let components = components-back p cs nothing-read 0 at-start refl (good-components-shaped p cs whole) in
       let this =
-      begun-back p (components .0) c n (n - length (c .pairs)) (components .1) (omega arith)
-      (record { weightings-few = begun .weightings-few; pairs-some = begun .count-some; pairs-few = begun .count-few; alone = begun .alone })
-      (begun-fresh n c begun) (begun-in-order n c begun) in
+      begun-back p (components .0) c n (n - length (c .pairs)) m (components .1) (good-begun n m c begun) (begun-fresh n m c begun) in
       let all = reads-both p (components .3) (rw (components .2) at (this .2)) in
-      subst (λ (k : ℕ). Reads-all p nothing-read (so-far-records (within cs n c)) (going-on k cs c (n - length (c .pairs))))
+      subst (λ (k : ℕ). Reads-all p nothing-read (so-far-records (within cs n m c)) (going-on k cs c (n - length (c .pairs)) m))
       (all-read-row p all (omega arith) (omega arith) .0) all
 
   -- the table's rows for a certificate
@@ -83,25 +89,27 @@ module _ (p : System) where
   reader-row x g = let row = all-read-row p (so-far-read x g) (omega arith) (omega arith) in (row .1, row .2)
 
 -- the weights of the last weighting rise, if there is one
-last-rises : (p : System) (vs : List Weighting) → length vs ≤ 1 → ((k : ℕ) → k < length vs → Good-weighting p (getD vs k no-weighting))
+last-rises : (p : System) (vs : List Weighting) → ((k : ℕ) → k < length vs → Good-weighting p (getD vs k no-weighting))
     → Weights-rise (last-weighting vs .weights) × Weights-rise (last-weighting vs .marked)
 unfolding rising last-weighting
-last-rises p [] few good = (refl, refl)
-last-rises p (v ∷ []) few good = let this = good 0 (omega arith) in (this .weights-rise, this .marked-rise)
-last-rises p (v ∷ w ∷ vs) few good = absurd (omega arith)
+last-rises p [] good = (refl, refl)
+last-rises p (v ∷ []) good = let this = good 0 (omega arith) in (this .weights-rise, this .marked-rise)
+last-rises p (v ∷ w ∷ vs) good = last-rises p (w ∷ vs) (λ k h. good (suc k) (omega arith))
 
 -- THE READER'S TESTS, by kind: for 2, and for 3
 
 unfoldable standing : So-far → (kind one a b c : ℕ) → Bool
 standing x k one a b c =
-    cond (eqb k C-component) ((eqb one 0 && eqb a (length (components-of (reader x)))) && not (eqb b 0 && ltb 1 c))
+    cond (eqb k C-component) ((eqb (missing x) 0 && (eqb one 0 && eqb a (length (components-of (reader x))))) && not (eqb b 0 && ltb 1 c))
     (cond (eqb k P-pair) ((eqb one 0 && eqb c 0) && last-below (λ q. q .at-rule) (λ q. q .place) (pairs-so-far x) a b)
-    (cond (eqb k W-weight) (eqb one 0 && weights-below (weights-so-far x) a b) (eqb one 0 && weights-below (marked-so-far x) a b)))
+    (cond (eqb k W-weight) (eqb one 0 && weights-below (weights-so-far x) a b)
+    (cond (eqb k M-marked) (eqb one 0 && weights-below (marked-so-far x) a b)
+    ((eqb one 0 && eqb a (weightings-begun x)) && ((eqb b 0 && eqb c 0) && leb 1 (missing x))))))
 
 unfoldable ranging : System → (kind a b c : ℕ) → Bool
 ranging p k a b c =
     cond (eqb k C-component) (leb b most-weightings && (leb 1 c && leb c most-pairs))
-    (cond (eqb k P-pair) true (cond (eqb k W-weight) (is-place p a b) (is-place p a b && defined p a)))
+    (cond (eqb k P-pair) true (cond (eqb k W-weight) (is-place p a b) (cond (eqb k M-marked) (is-place p a b && defined p a) true)))
 
 abbrev the-record : (kind one a b c : ℕ) → Record
 the-record k one a b c = record { kind = k; one = one; a = a; b = b; c = c }
@@ -109,27 +117,33 @@ the-record k one a b c = record { kind = k; one = one; a = a; b = b; c = c }
 -- what stands and is in range passes them
 module _ {x : So-far} {k one a b c : ℕ} where
   stands-follows : Stands x (the-record k one a b c) → Follows x (index k)
-  stands-follows (stands-component e f z s l) = rw e f
+  stands-follows (stands-component e f no-more z s l) = rw e f
   stands-follows (stands-pair e f z s h) = rw e f
   stands-follows (stands-weight e f z h) = rw e f
   stands-follows (stands-marked e f z h) = rw e f
+  stands-follows (stands-weighting e f z s zb zc still) = rw e f
 
   stands-passes : Stands x (the-record k one a b c) → standing x k one a b c ≡ true
   unfolding standing weights-below
-  stands-passes (stands-component e f z s l) =
-      rw (e, counts-alone b c l) (and-both (and-both (eq-eqb one 0 z) (eq-eqb a _ (s ∙ sym (components-same x)))) refl)
+  stands-passes (stands-component e f no-more z s l) =
+      rw (e, counts-alone b c l)
+      (and-both (and-both (eq-eqb (missing x) 0 no-more) (and-both (eq-eqb one 0 z) (eq-eqb a _ (s ∙ sym (components-same x))))) refl)
   stands-passes (stands-pair e f z s h) =
       rw e (and-both (and-both (eq-eqb one 0 z) (eq-eqb c 0 s)) (below-next (λ q. q .at-rule) (λ q. q .place) (pairs-so-far x) (a-pair a b) [] h))
   stands-passes (stands-weight e f z h) =
       rw e (and-both (eq-eqb one 0 z) (below-next (λ w. w .symbol) (λ w. w .place) (weights-so-far x) (weight-of (the-record k one a b c)) [] h))
   stands-passes (stands-marked e f z h) =
       rw e (and-both (eq-eqb one 0 z) (below-next (λ w. w .symbol) (λ w. w .place) (marked-so-far x) (weight-of (the-record k one a b c)) [] h))
+  stands-passes (stands-weighting e f z s zb zc still) =
+      rw e
+      (and-both (and-both (eq-eqb one 0 z) (eq-eqb a _ s)) (and-both (and-both (eq-eqb b 0 zb) (eq-eqb c 0 zc)) (le-leb 1 (missing x) still)))
 
 in-range-passes : (p : System) {k one a b c : ℕ} → In-range p (the-record k one a b c) → ranging p k a b c ≡ true
 unfolding ranging is-place
 in-range-passes p {b = b} {c = c} (component-in-range e few least most) =
     rw e (and-both (le-leb b most-weightings few) (and-both (le-leb 1 c least) (le-leb c most-pairs most)))
 in-range-passes p (pair-in-range e) = rw e
+in-range-passes p (weighting-in-range e) = rw e
 in-range-passes p (weight-in-range e s i) = rw e (and-both (lt-ltb _ _ s) (le-leb _ _ i))
 in-range-passes p (marked-in-range e s i d) = rw e (and-both (and-both (lt-ltb _ _ s) (le-leb _ _ i)) d)
 
@@ -165,13 +179,13 @@ module _ (p : System) (one a b c : ℕ) where
       unless-stray _ _ stands-passes
       (λ t.
       let number : a ≡ components x = eqb-true _ _ (search ands) ∙ components-same x in
-      unless-out _ _ (stands-component refl f (eqb-true one 0 (search ands)) number (alone-counts b c (search ands))) (in-range-passes p)
+      unless-out _ _ (stands-component refl f (eqb-true (missing x) 0 (search ands)) (eqb-true one 0 (search ands)) number (alone-counts b c (search ands))) (in-range-passes p)
       (λ u. component-in-range refl (leb-true b most-weightings (search ands)) (leb-true 1 c (search ands)) (leb-true c most-pairs (search ands)))
       (λ e. omega arith))
 
-  module _ (cs : List Component) (n : ℕ) (d : Component) (g : Good-begun p n d) where
+  module _ (cs : List Component) (n m : ℕ) (d : Component) (g : Good-begun p n m d) where
     abbrev this : So-far
-    this = within cs n d
+    this = within cs n m d
 
     pair-verdict : Follows this (index P-pair) → Verdict p this (the-record P-pair one a b c) (pair-read p (the-record P-pair one a b c) (reader this) d)
     unfolding pair-read standing pairs-so-far
@@ -183,7 +197,7 @@ module _ (p : System) (one a b c : ℕ) where
 
     rising-weights : Weights-rise (weights-so-far this) × Weights-rise (marked-so-far this)
     unfolding weights-so-far marked-so-far
-    rising-weights = last-rises p (d .weightings) (g .weightings-few) (g .weightings-good)
+    rising-weights = last-rises p (d .weightings) (g .weightings-good)
 
     weight-verdict : Follows this (index W-weight) → Verdict p this (the-record W-weight one a b c) (weight-read p (the-record W-weight one a b c) (reader this) d)
     unfolding weight-read standing ranging weights-so-far weights-below is-place
@@ -207,17 +221,28 @@ module _ (p : System) (one a b c : ℕ) where
         (λ u. marked-in-range refl (ltb-true _ _ (search ands)) (leb-true _ _ (search ands)) (search ands))
         (λ e. omega arith))
 
+    weighting-verdict : Follows this (index L-weighting) → Verdict p this (the-record L-weighting one a b c) (weighting-read (the-record L-weighting one a b c) (reader this) d)
+    unfolding weighting-read standing weightings-begun missing
+    weighting-verdict f =
+        unless-stray _ _ stands-passes
+        (λ t.
+        passes _ (stands-weighting refl f (eqb-true one 0 (search ands)) (eqb-true a _ (search ands)) (eqb-true b 0 (search ands)) (eqb-true c 0 (search ands)) (leb-true 1 m (search ands)))
+        (weighting-in-range refl)
+        (λ e. absurd (omega arith)))
+
   of-kind : (x : So-far) (k : ℕ) → Own-kind k → Good-so-far p x → Follows x (index k)
       → Verdict p x (the-record k one a b c)
       (cond (eqb k C-component) (component-read (the-record k one a b c) (reader x)) (inside-read p (the-record k one a b c) (reader x) (begun-of x)))
   unfolding inside-read begun-of Good-so-far Follows so-far-records last-row due weighted index may-follow entry order when-in lets
   of-kind x _ own-C g f = component-verdict x f
   of-kind nothing _ own-P g f = absurd (false≢true f)
-  of-kind (within cs n d) _ own-P g f = pair-verdict cs n d (g .1) f
+  of-kind (within cs n m d) _ own-P g f = pair-verdict cs n m d (g .1) f
   of-kind nothing _ own-W g f = absurd (false≢true f)
-  of-kind (within cs n d) _ own-W g f = weight-verdict cs n d (g .1) f
+  of-kind (within cs n m d) _ own-W g f = weight-verdict cs n m d (g .1) f
   of-kind nothing _ own-M g f = absurd (false≢true f)
-  of-kind (within cs n d) _ own-M g f = marked-verdict cs n d (g .1) f
+  of-kind (within cs n m d) _ own-M g f = marked-verdict cs n m d (g .1) f
+  of-kind nothing _ own-L g f = absurd (false≢true f)
+  of-kind (within cs n m d) _ own-L g f = weighting-verdict cs n m d (g .1) f
 
 -- any record: first by the table, which lets no other kind stand
 verdict : (p : System) (x : So-far) (r : Record) → Good-so-far p x → Verdict p x r (cert-step p r (reader x))
@@ -230,7 +255,7 @@ verdict p x r g =
 
 -- and the end of the file
 abbrev may-end : So-far → Bool
-may-end x = may-follow (last-row components-start (so-far-records x)) certificate-edge (due x) (weighted x)
+may-end x = may-follow (last-row components-start (so-far-records x)) certificate-edge (due x) (weighted x) && eqb (missing x) 0
 
 end-by-test : (x : So-far) → cert-end (reader x) ≡ unless (may-end x) 2 (passed (components-of (reader x)))
 unfolding cert-end
@@ -252,28 +277,29 @@ module _ (p : System) where
     there : reader before ≡ x
 
   found : {done : List Record} {x : Certificate-reading} → Reached p done x → x .last ≡ last-row components-start done → All-in-range done → Found done x
-  unfolding so-far-records Good-so-far done-of begun-of due last-row
+  unfolding so-far-records Good-so-far done-of begun-of due missing last-row
   found only.at-start row fits = record { before = nothing; good = tt; are = refl; there = refl }
-  found (inside last cs c left n s stage b) row fits =
+  found (inside last cs c left m n s stage b) row fits =
       let counts = b .counts in
       let in-order = b .in-order in
       let still : n - length (c .pairs) ≡ left = omega arith in
       let of-this = in-range-right (component-records 0 cs) _ fits in
-      let values = weightings-fit-back (c .weightings) (in-range-right (pair-records (c .pairs)) _ (of-this .1)) in
-      let begun : Good-begun p n c =
+      let values = weightings-fit-back 0 (c .weightings) (in-range-right (pair-records (c .pairs)) _ (of-this .1)) in
+      let begun : Good-begun p n m c =
       record {
         weightings-few = counts .weightings-few;
+        first-begun = b .first-begun;
         count-some = counts .pairs-some;
         count-few = counts .pairs-few;
-        alone = counts .alone;
+        alone = λ e. counts .alone (let none = b .first-begun e in omega arith);
         pairs-within = omega arith;
-        weights-last = λ h. fresh-again (stage-fresh stage (omega arith));
+        weights-last = λ h. fresh-again 0 _ (stage-fresh stage (omega arith)) (add-zero _) (λ e. refl) .0;
         pairs-rise = in-order .pairs-rise;
         are-pairs = each-at (a-pair 0 0) (in-order .are-pairs);
         weightings-good = weightings-by p (c .weightings) (in-order .weightings-shaped) values;
       } in
       record {
-        before = within cs n c;
+        before = within cs n m c;
         good = (certificate-of-shaped p cs s (components-fit-back 0 cs (in-range-left (component-records 0 cs) _ fits)), begun);
         are = refl;
         there = rw (← row, still);
@@ -287,7 +313,7 @@ module _ (p : System) where
         let x = f .before in
         let test = cond-second (may-end x) _ _ (λ z. not-passed (sym z)) (sym (end-by-test x) ∙ ap cert-end (f .there) ∙ e) in
         subst (Certificate-fails p done) (refused-same (test .1))
-        (ends-early (record { before = x; good = f .good; are = f .are; fails = λ h. not-both (may-end x) h (test .0) }))
+        (ends-early (record { before = x; good = f .good; are = f .are; fails = λ h none. not-both (may-end x) (and-both h (eq-eqb (missing x) 0 none)) (test .0) }))
 
     -- the next record
     module _ (r : Record) (rs : List Record) where
@@ -365,7 +391,7 @@ module _ (p : System) where
   unfolding cert-from Follows
   end-refused rs f =
       let x = f .before in
-      let test = by-test (may-end x) (λ h. absurd (f .fails h)) (λ h. h) in
+      let test = by-test (may-end x) (λ h. absurd (f .fails (search ands) (eqb-true (missing x) 0 (search ands)))) (λ h. h) in
       refused-there rs [] x 2 (f .good) (rw append-nil (f .are)) (end-by-test x ∙ cond-false _ _ test)
 
 pub fails-refused : (p : System) (rs : List Record) (n : ℕ) → Certificate-fails p rs n → components-from p components-start rs ≡ refused n

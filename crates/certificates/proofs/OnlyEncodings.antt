@@ -4,96 +4,90 @@ use mathlib.Core.Path.{_≡_, refl, sym, ap, _∙_, subst}
 use mathlib.Core.Bool.{true, false, _&&_, false≢true}
 use mathlib.Core.List.{List, [], _∷_, _++_, append-assoc, append-nil}
 use mathlib.Core.Option.{none, some}
-use Prim.Native.Nat.{ℕ, _+_, _-_, _%_, _≤_, _<_}
-use native.Mathlib.Nat.{zero-add, add-zero}
+use Prim.Native.Nat.{ℕ, zero, suc, _+_, _-_, _%_, _≤_, _<_}
+use native.Mathlib.Nat.{zero-add}
 use native.Mathlib.Omega.{arith}
 use lib.Dec.{ltb, eqb}
-use lib.ListN.{length, replicate, length-append, length-replicate}
+use lib.ListN.{length, length-append}
 use lib.Seq.{append-snoc}
 use borrow.Author.Tests.{ltb-false, leb-true, eqb-true, not-false}
 use Rattle.rewriting.specs.Terms.{System}
 use Rattle.rewriting.specs.Pairs.{Pair}
-use Rattle.rewriting.proofs.Basics.{and-left, and-right, or-left-false, or-right-false, Each, each-nil, each-cons, each-head, each-append}
+use Rattle.rewriting.proofs.Basics.{and-left, and-right, or-left-false, or-right-false, Each, each-nil, each-cons, each-head, each-append, each-left, each-right}
 use Rattle.records.specs.declared.Record.{Record}
 use Rattle.records.specs.Outcomes.{passed}
 use Rattle.records.specs.Records.{a-record, all-records, all-record-bytes, length-bad, all-bytes}
-use Rattle.records.specs.Order.{C-component, W-weight, M-marked, components-start, rows, entry, order, when-in, lets, may-follow, certificate-edge}
+use Rattle.records.specs.Order.{C-component, W-weight, M-marked, L-weighting, components-start, rows, entry, order, when-in, lets, may-follow, certificate-edge}
 use Rattle.records.specs.Rising.{last-below, rising}
 use Rattle.records.proofs.Outcomes.{passed-same, test-held, test-failed, after-passed}
 use Rattle.records.proofs.Bytes.{bytes-of-records, records-in-range}
 use Rattle.pairs.specs.Listing.{pair-record, pair-records}
 use Rattle.polynomials.specs.Polynomials.{Weight, Weighting}
 use Rattle.polynomials.specs.Judging.{is-none}
-use Rattle.certificates.specs.Components.{Component, no-weighting, with-pair, last-weighting, on-last, add-weight, add-marked, with-weight, with-marked}
+use Rattle.certificates.specs.Components.{Component, no-weighting, with-pair, with-weighting, last-weighting, on-last, add-weight, add-marked, with-weight, with-marked}
 use Rattle.certificates.specs.CertificateReading.{Certificate-reading, going-on, most-certificate-bytes, with-begun, components-of, has-weighting, weights-below, cert-step, cert-end, cert-from, components-from, read-certificate}
-use Rattle.certificates.specs.Encoding.{weight-records, weighting-records, component-records, certificate-bytes, Good-certificate}
+use Rattle.certificates.specs.Encoding.{weighting-records, component-records, certificate-bytes, Good-certificate}
 use Rattle.certificates.proofs.Rising.{rising-snoc}
-use Rattle.certificates.proofs.OneRecord.{nothing-read, begun-with, Reads, reads-component, reads-pair, reads-weight, reads-marked, passes-reads}
-use Rattle.certificates.proofs.Shapes.{Counted, Is-pair, At-place, Of-defined, Weighting-shaped, In-order, Shaped, certificate-of-shaped}
-use Rattle.certificates.proofs.Places.{weighted, Fresh, no-weightings, one-weighting, fresh-by, fresh-records, fresh-shaped, Stage, after-component, after-pair, after-weight, after-marked, stage-row, due-at-end, due-at-component}
-use Rattle.certificates.proofs.Encoding.{weight-record, pair-records-snoc, weight-records-snoc, records-of, component-records-snoc, components-fit-back}
+use Rattle.certificates.proofs.OneRecord.{nothing-read, begun-with, Reads, reads-component, reads-pair, reads-weight, reads-marked, reads-weighting, passes-reads}
+use Rattle.certificates.proofs.Shapes.{Counted, Is-pair, At-place, Of-defined, Weighting-shaped, Shaped, Begun, whole-shaped, certificate-of-shaped}
+use Rattle.certificates.proofs.Places.{weighted, last-of, weight-added, marked-added, Fresh, no-weightings, one-weighting, fresh-by, fresh-records, first-counted, first-if-any, no-weights-shaped, fresh-shaped, Stage, after-component, after-pair, after-weight, after-marked, after-weighting, stage-row, due-at-end, due-at-component, due-at-weighting}
+use Rattle.certificates.proofs.Encoding.{weight-record, pair-records-snoc, weight-at-end, marked-at-end, weighting-at-end, records-of, records-of-snoc, component-records-snoc, components-fit-back}
 
 -- WHAT HAS BEEN READ
 
--- the component begun, of n pairs
-pub record Begun (p : System) (c : Component) (due n : ℕ) : Type 0 where
-  pub counted : length (c .pairs) + due ≡ n
-  pub counts : Counted (length (c .weightings)) n
-  pub in-order : In-order p c
-
 pub data Reached (p : System) : List Record → Certificate-reading → Type 0 where
   at-start : Reached p [] nothing-read
-  inside : (last : ℕ) (cs : List Component) (c : Component) (due n : ℕ) → Each (Shaped p) cs → Stage last c due → Begun p c due n
-      → Reached p (component-records 0 cs ++ records-of (length cs) n c) (going-on last cs c due)
+  inside : (last : ℕ) (cs : List Component) (c : Component) (due more n : ℕ) → Each (Shaped p) cs → Stage last c due → Begun p c due more n
+      → Reached p (component-records 0 cs ++ records-of (length cs) n more c) (going-on last cs c due more)
 
 pub reached-row : (p : System) {rs : List Record} {x : Certificate-reading} → Reached p rs x → (5 ≤ x .last) × (x .last < rows)
 reached-row p at-start = omega arith
-reached-row p (inside last cs c due n s st b) = stage-row st
+reached-row p (inside last cs c due more n s st b) = stage-row st
 
--- a component without pairs due is ended
+-- a component without pairs due or weightings to begin is ended
 record Ended (p : System) (rs : List Record) (cs : List Component) : Type 0 where
   records : rs ≡ component-records 0 cs
   shaped : Each (Shaped p) cs
 
-ended : (p : System) (cs : List Component) (c : Component) (n : ℕ) → Each (Shaped p) cs → Begun p c 0 n
-    → Ended p (component-records 0 cs ++ records-of (length cs) n c) (cs ++ (c ∷ []))
-ended p cs c n s b =
-    let all : n ≡ length (c .pairs) = sym (b .counted) ∙ add-zero _ in
+ended : (p : System) (cs : List Component) (c : Component) (due more n : ℕ) → Each (Shaped p) cs → due ≡ 0 → more ≡ 0 → Begun p c due more n
+    → Ended p (component-records 0 cs ++ records-of (length cs) n more c) (cs ++ (c ∷ []))
+ended p cs c due more n s none-due none-more b =
+    let whole = whole-shaped p c n (rw (none-due, none-more) at b) in
     record {
-      records = rw (component-records-snoc 0 cs c, zero-add, all);
-      shaped = each-append s (each-cons c [] (record { counts = rw all at (b .counts); in-order = b .in-order }) each-nil);
+      records = rw (component-records-snoc 0 cs c, zero-add, whole .0, none-more);
+      shaped = each-append s (each-cons c [] (whole .1) each-nil);
     }
 
 -- ONE MORE RECORD
 
 module _ (p : System) where
   one-component : (rs : List Record) (cs : List Component) (b n : ℕ) → Ended p rs cs → Counted b n
-      → Reached p (rs ++ (a-record C-component (length cs) b n ∷ [])) (going-on 6 cs (begun-with b) n)
+      → Reached p (rs ++ (a-record C-component (length cs) b n ∷ [])) (going-on 6 cs (begun-with b) n (b - 1))
   unfolding pair-records rising
   one-component rs cs b n e k =
-      let fresh = fresh-by b (k .weightings-few) in
-      let some-due = k .pairs-some in
-      let count : length (replicate b no-weighting) ≡ b = length-replicate b no-weighting in
-      let begun : Begun p (begun-with b) n n =
+      let fresh = fresh-by b in
+      let begun : Begun p (begun-with b) n (b - 1) n =
       record {
         counted = zero-add n;
-        counts = rw count k;
+        counts = rw (first-counted b) k;
+        first-begun = first-if-any b;
         in-order = record { pairs-rise = refl; are-pairs = each-nil; weightings-shaped = fresh-shaped p fresh };
       } in
       rw (e .records)
-      (rw (count, fresh-records fresh) at (inside 6 cs (begun-with b) n n (e .shaped) (after-component _ n fresh some-due) begun))
+      (rw (first-counted b, fresh-records fresh) at (inside 6 cs (begun-with b) n (b - 1) n (e .shaped) (after-component _ n fresh (k .pairs-some)) begun))
 
-  one-pair : (cs : List Component) (qs : List Pair) (vs : List Weighting) (due n : ℕ) (q : Pair) → Each (Shaped p) cs → Fresh vs → 1 ≤ due
-      → Begun p (record { pairs = qs; weightings = vs }) due n
+  one-pair : (cs : List Component) (qs : List Pair) (vs : List Weighting) (due more n : ℕ) (q : Pair) → Each (Shaped p) cs → Fresh vs → 1 ≤ due
+      → Begun p (record { pairs = qs; weightings = vs }) due more n
       → last-below (λ q. q .at-rule) (λ q. q .place) qs (q .at-rule) (q .place) ≡ true → Is-pair p q
-      → Reached p ((component-records 0 cs ++ records-of (length cs) n (record { pairs = qs; weightings = vs })) ++ (pair-record q ∷ []))
-      (going-on 7 cs (record { pairs = qs ++ (q ∷ []); weightings = vs }) (due - 1))
-  one-pair cs qs vs due n q s fresh still b below is =
+      → Reached p ((component-records 0 cs ++ records-of (length cs) n more (record { pairs = qs; weightings = vs })) ++ (pair-record q ∷ []))
+      (going-on 7 cs (record { pairs = qs ++ (q ∷ []); weightings = vs }) (due - 1) more)
+  one-pair cs qs vs due more n q s fresh still b below is =
       let counted = b .counted in
-      let begun : Begun p (record { pairs = qs ++ (q ∷ []); weightings = vs }) (due - 1) n =
+      let begun : Begun p (record { pairs = qs ++ (q ∷ []); weightings = vs }) (due - 1) more n =
       record {
         counted = simp length-append (omega arith);
         counts = b .counts;
+        first-begun = b .first-begun;
         in-order =
             record {
               pairs-rise = rising-snoc (λ q. q .at-rule) (λ q. q .place) qs q (b .in-order .pairs-rise) below;
@@ -102,30 +96,43 @@ module _ (p : System) where
             };
       } in
       rw (fresh-records fresh, append-nil, append-assoc (component-records 0 cs), ← (pair-records-snoc qs q))
-      (rw (fresh-records fresh, append-nil) at (inside 7 cs _ (due - 1) n s (after-pair _ vs (due - 1) fresh) begun))
+      (rw (fresh-records fresh, append-nil) at (inside 7 cs _ (due - 1) more n s (after-pair _ vs (due - 1) fresh) begun))
 
-  -- the component begun with another weighting: its pairs stay
-  begun-weighted : (qs : List Pair) (ws ms ws′ ms′ : List Weight) (n : ℕ) → Begun p (weighted qs ws ms) 0 n
-      → Weighting-shaped p (record { weights = ws′; marked = ms′ }) → Begun p (weighted qs ws′ ms′) 0 n
-  begun-weighted qs ws ms ws′ ms′ n b shape =
-      record {
-        counted = b .counted;
-        counts = b .counts;
-        in-order =
-            record {
-              pairs-rise = b .in-order .pairs-rise;
-              are-pairs = b .in-order .are-pairs;
-              weightings-shaped = each-cons _ [] shape each-nil;
-            };
-      }
+  -- in its last weighting others stand: whatever is before it stays
+  module _ (vs : List Weighting) (qs : List Pair) (ws ms : List Weight) (more n : ℕ) (b : Begun p (weighted vs qs ws ms) 0 more n) where
+    last-shaped : Weighting-shaped p (record { weights = ws; marked = ms })
+    last-shaped = each-head (each-right vs _ (b .in-order .weightings-shaped))
 
-  one-weight : (cs : List Component) (qs : List Pair) (ws : List Weight) (n : ℕ) (w : Weight) → Each (Shaped p) cs → Begun p (weighted qs ws []) 0 n
-      → weights-below ws (w .symbol) (w .place) ≡ true → At-place p w
-      → Reached p ((component-records 0 cs ++ records-of (length cs) n (weighted qs ws [])) ++ (weight-record W-weight w ∷ []))
-      (going-on 8 cs (weighted qs (ws ++ (w ∷ [])) []) 0)
-  unfolding weighting-records weight-records weights-below
-  one-weight cs qs ws n w s b below place =
-      let old = each-head (b .in-order .weightings-shaped) in
+    begun-weighted : (ws′ ms′ : List Weight) → Weighting-shaped p (record { weights = ws′; marked = ms′ }) → Begun p (weighted vs qs ws′ ms′) 0 more n
+    begun-weighted ws′ ms′ shape =
+        record {
+          counted = b .counted;
+          counts = rw (length-append vs) (rw (length-append vs) at (b .counts));
+          first-begun = rw (length-append vs) (rw (length-append vs) at (b .first-begun));
+          in-order =
+              record {
+                pairs-rise = b .in-order .pairs-rise;
+                are-pairs = b .in-order .are-pairs;
+                weightings-shaped = each-append (each-left vs _ (b .in-order .weightings-shaped)) (each-cons _ [] shape each-nil);
+              };
+        }
+
+  -- one record more in the weightings of the component begun
+  grown : (cs : List Component) (last n more less : ℕ) (qs : List Pair) (vs ws : List Weighting) (r : Record) → Each (Shaped p) cs
+      → length ws + less ≡ length vs + more → weighting-records 0 ws ≡ weighting-records 0 vs ++ (r ∷ [])
+      → Stage last (record { pairs = qs; weightings = ws }) 0 → Begun p (record { pairs = qs; weightings = ws }) 0 less n
+      → Reached p ((component-records 0 cs ++ records-of (length cs) n more (record { pairs = qs; weightings = vs })) ++ (r ∷ []))
+      (going-on last cs (record { pairs = qs; weightings = ws }) 0 less)
+  grown cs last n more less qs vs ws r s e by stage begun =
+      rw (append-assoc (component-records 0 cs), ← (records-of-snoc (length cs) n more less qs vs ws r e by)) (inside last cs _ 0 less n s stage begun)
+
+  one-weight : (cs : List Component) (vs : List Weighting) (qs : List Pair) (ws : List Weight) (more n : ℕ) (w : Weight) → Each (Shaped p) cs
+      → Begun p (weighted vs qs ws []) 0 more n → weights-below ws (w .symbol) (w .place) ≡ true → At-place p w
+      → Reached p ((component-records 0 cs ++ records-of (length cs) n more (weighted vs qs ws [])) ++ (weight-record W-weight w ∷ []))
+      (going-on 8 cs (weighted vs qs (ws ++ (w ∷ [])) []) 0 more)
+  unfolding weights-below
+  one-weight cs vs qs ws more n w s b below place =
+      let old = last-shaped vs qs ws [] more n b in
       let shape : Weighting-shaped p (record { weights = ws ++ (w ∷ []); marked = [] }) =
       record {
         weights-rise = rising-snoc (λ w. w .symbol) (λ w. w .place) ws w (old .weights-rise) below;
@@ -134,16 +141,16 @@ module _ (p : System) where
         marked-placed = each-nil;
         marked-defined = each-nil;
       } in
-      rw (append-assoc (component-records 0 cs), append-assoc (pair-records qs), append-nil (weight-records W-weight ws), ← (weight-records-snoc W-weight ws w))
-      (rw (append-nil (weight-records W-weight (ws ++ (w ∷ [])))) at (inside 8 cs _ 0 n s (after-weight qs (ws ++ (w ∷ []))) (begun-weighted qs ws [] _ [] n b shape)))
+      grown cs 8 n more more qs _ _ _ s (rw (length-append vs, length-append vs)) (weight-at-end 0 vs ws w) (after-weight vs qs (ws ++ (w ∷ [])))
+      (begun-weighted vs qs ws [] more n b _ [] shape)
 
-  one-marked : (cs : List Component) (qs : List Pair) (ws ms : List Weight) (n : ℕ) (w : Weight) → Each (Shaped p) cs → Begun p (weighted qs ws ms) 0 n
-      → weights-below ms (w .symbol) (w .place) ≡ true → At-place p w → Of-defined p w
-      → Reached p ((component-records 0 cs ++ records-of (length cs) n (weighted qs ws ms)) ++ (weight-record M-marked w ∷ []))
-      (going-on 9 cs (weighted qs ws (ms ++ (w ∷ []))) 0)
-  unfolding weighting-records weights-below
-  one-marked cs qs ws ms n w s b below place def =
-      let old = each-head (b .in-order .weightings-shaped) in
+  one-marked : (cs : List Component) (vs : List Weighting) (qs : List Pair) (ws ms : List Weight) (more n : ℕ) (w : Weight) → Each (Shaped p) cs
+      → Begun p (weighted vs qs ws ms) 0 more n → weights-below ms (w .symbol) (w .place) ≡ true → At-place p w → Of-defined p w
+      → Reached p ((component-records 0 cs ++ records-of (length cs) n more (weighted vs qs ws ms)) ++ (weight-record M-marked w ∷ []))
+      (going-on 9 cs (weighted vs qs ws (ms ++ (w ∷ []))) 0 more)
+  unfolding weights-below
+  one-marked cs vs qs ws ms more n w s b below place def =
+      let old = last-shaped vs qs ws ms more n b in
       let shape : Weighting-shaped p (record { weights = ws; marked = ms ++ (w ∷ []) }) =
       record {
         weights-rise = old .weights-rise;
@@ -152,47 +159,84 @@ module _ (p : System) where
         marked-placed = each-append (old .marked-placed) (each-cons w [] place each-nil);
         marked-defined = each-append (old .marked-defined) (each-cons w [] def each-nil);
       } in
-      rw (append-assoc (component-records 0 cs), append-assoc (pair-records qs), append-nil, append-assoc, ← (weight-records-snoc M-marked ms w))
-      (rw append-nil at (inside 9 cs _ 0 n s (after-marked qs ws (ms ++ (w ∷ []))) (begun-weighted qs ws ms ws _ n b shape)))
+      grown cs 9 n more more qs _ _ _ s (rw (length-append vs, length-append vs)) (marked-at-end 0 vs ws ms w) (after-marked vs qs ws (ms ++ (w ∷ [])))
+      (begun-weighted vs qs ws ms more n b ws _ shape)
+
+  -- where a weighting is still to begin the first has begun, so the L has a number above zero
+  one-weighting-more : (cs : List Component) (c : Component) (more n : ℕ) → Each (Shaped p) cs → Begun p c 0 more n → 1 ≤ more
+      → Reached p ((component-records 0 cs ++ records-of (length cs) n more c) ++ (a-record L-weighting (length (c .weightings)) 0 0 ∷ []))
+      (going-on 10 cs (with-weighting c) 0 (more - 1))
+  unfolding with-weighting
+  one-weighting-more cs c more n s b still =
+      let vs = c .weightings in
+      let count : length (vs ++ (no-weighting ∷ [])) + (more - 1) ≡ length vs + more = simp length-append (omega arith) in
+      let begun : Begun p (weighted vs (c .pairs) [] []) 0 (more - 1) n =
+      record {
+        counted = b .counted;
+        counts = rw count (b .counts);
+        first-begun = simp length-append (omega arith);
+        in-order =
+            record {
+              pairs-rise = b .in-order .pairs-rise;
+              are-pairs = b .in-order .are-pairs;
+              weightings-shaped = each-append (b .in-order .weightings-shaped) (each-cons _ [] (no-weights-shaped p) each-nil);
+            };
+      } in
+      grown cs 10 n more (more - 1) (c .pairs) vs _ _ s count (weighting-at-end vs (later (length vs) more (b .first-begun) still)) (after-weighting vs (c .pairs)) begun
+    where
+      later : (begun more : ℕ) → (begun ≡ 0 → more ≡ 0) → 1 ≤ more → 1 ≤ begun
+      later zero more first still = let none-more = first refl in absurd (omega arith)
+      later (suc begun) more first still = omega arith
 
   -- weights come when no pair is due
-  none-due : (c : Component) (due n : ℕ) → eqb due 0 && true ≡ true → Begun p c due n → Begun p c 0 n
-  none-due c due n h b = subst (λ (d : ℕ). Begun p c d n) (eqb-true due 0 (and-left _ true h)) b
+  none-due : (c : Component) (due more n : ℕ) → eqb due 0 && true ≡ true → Begun p c due more n → Begun p c 0 more n
+  none-due c due more n h b = subst (λ (d : ℕ). Begun p c d more n) (eqb-true due 0 (and-left _ true h)) b
 
   -- whichever record comes, by where the reading stands
   pub one-more : {rs : List Record} {x y : Certificate-reading} {r : Record} → Reached p rs x → Reads p x r y → Reached p (rs ++ (r ∷ [])) y
   unfolding components-of with-begun component-records may-follow entry order when-in lets has-weighting is-none last-weighting on-last with-pair with-weight add-weight with-marked add-marked
-  one-more at-start (reads-component x b k h counts) = one-component [] [] b k (record { records = refl; shaped = each-nil }) counts
-  one-more (inside last cs c due n s st b) (reads-component x i k h counts) =
-      one-component _ _ i k (ended p cs c n s (subst (λ (d : ℕ). Begun p c d n) (due-at-component (has-weighting (some c)) st h) b)) counts
-  one-more (inside _ cs _ _ n s (after-component vs due f still) b) (reads-pair _ _ _ _ q h below is) = one-pair cs [] vs due n q s f still b below is
-  one-more (inside _ cs _ _ n s (after-pair qs vs due f) b) (reads-pair _ _ _ _ q h below is) = one-pair cs qs vs due n q s f (leb-true 1 due h) b below is
-  one-more (inside _ cs _ _ n s (after-weight qs ws) b) (reads-pair _ _ _ _ q h below is) = absurd (false≢true h)
-  one-more (inside _ cs _ _ n s (after-marked qs ws ms) b) (reads-pair _ _ _ _ q h below is) = absurd (false≢true h)
-  one-more (inside _ cs _ _ n s (after-component vs due f still) b) (reads-weight _ _ _ _ w h below place) = absurd (false≢true h)
-  one-more (inside _ cs _ _ n s (after-pair qs _ due no-weightings) b) (reads-weight _ _ _ _ w h below place) = absurd (false≢true (and-right (eqb due 0) false h))
-  one-more (inside _ cs _ _ n s (after-pair qs _ due one-weighting) b) (reads-weight _ _ _ _ w h below place) =
-      one-weight cs qs [] n w s (none-due (weighted qs [] []) due n h b) below place
-  one-more (inside _ cs _ _ n s (after-weight qs ws) b) (reads-weight _ _ _ _ w h below place) = one-weight cs qs ws n w s b below place
-  one-more (inside _ cs _ _ n s (after-marked qs ws ms) b) (reads-weight _ _ _ _ w h below place) = absurd (false≢true h)
-  one-more (inside _ cs _ _ n s (after-component vs due f still) b) (reads-marked _ _ _ _ w h below place def) = absurd (false≢true h)
-  one-more (inside _ cs _ _ n s (after-pair qs _ due no-weightings) b) (reads-marked _ _ _ _ w h below place def) = absurd (false≢true (and-right (eqb due 0) false h))
-  one-more (inside _ cs _ _ n s (after-pair qs _ due one-weighting) b) (reads-marked _ _ _ _ w h below place def) =
-      one-marked cs qs [] [] n w s (none-due (weighted qs [] []) due n h b) below place def
-  one-more (inside _ cs _ _ n s (after-weight qs ws) b) (reads-marked _ _ _ _ w h below place def) = one-marked cs qs ws [] n w s b below place def
-  one-more (inside _ cs _ _ n s (after-marked qs ws ms) b) (reads-marked _ _ _ _ w h below place def) = one-marked cs qs ws ms n w s b below place def
+  one-more at-start (reads-component x b k h none-more counts) = one-component [] [] b k (record { records = refl; shaped = each-nil }) counts
+  one-more (inside last cs c due more n s st b) (reads-component x i k h none-more counts) =
+      one-component _ _ i k (ended p cs c due more n s (due-at-component (has-weighting (some c)) st h) none-more b) counts
+  one-more (inside _ cs _ _ more n s (after-component vs due f still) b) (reads-pair _ _ _ _ _ q h below is) = one-pair cs [] vs due more n q s f still b below is
+  one-more (inside _ cs _ _ more n s (after-pair qs vs due f) b) (reads-pair _ _ _ _ _ q h below is) = one-pair cs qs vs due more n q s f (leb-true 1 due h) b below is
+  one-more (inside _ cs _ _ more n s (after-weight vs qs ws) b) (reads-pair _ _ _ _ _ q h below is) = absurd (false≢true h)
+  one-more (inside _ cs _ _ more n s (after-marked vs qs ws ms) b) (reads-pair _ _ _ _ _ q h below is) = absurd (false≢true h)
+  one-more (inside _ cs _ _ more n s (after-weighting vs qs) b) (reads-pair _ _ _ _ _ q h below is) = absurd (false≢true h)
+  one-more (inside _ cs _ _ more n s (after-component vs due f still) b) (reads-weight _ _ _ _ _ w h below place) = absurd (false≢true h)
+  one-more (inside _ cs _ _ more n s (after-pair qs _ due no-weightings) b) (reads-weight _ _ _ _ _ w h below place) = absurd (false≢true (and-right (eqb due 0) false h))
+  one-more (inside _ cs _ _ more n s (after-pair qs _ due one-weighting) b) (reads-weight _ _ _ _ _ w h below place) =
+      one-weight cs [] qs [] more n w s (none-due (weighted [] qs [] []) due more n h b) below place
+  one-more (inside _ cs _ _ more n s (after-weight vs qs ws) b) (reads-weight _ _ _ _ _ w h below place) =
+      rw (weight-added vs qs ws [] w) (one-weight cs vs qs ws more n w s b (rw (last-of vs _) at below) place)
+  one-more (inside _ cs _ _ more n s (after-marked vs qs ws ms) b) (reads-weight _ _ _ _ _ w h below place) = absurd (false≢true h)
+  one-more (inside _ cs _ _ more n s (after-weighting vs qs) b) (reads-weight _ _ _ _ _ w h below place) =
+      rw (weight-added vs qs [] [] w) (one-weight cs vs qs [] more n w s b (rw (last-of vs _) at below) place)
+  one-more (inside _ cs _ _ more n s (after-component vs due f still) b) (reads-marked _ _ _ _ _ w h below place def) = absurd (false≢true h)
+  one-more (inside _ cs _ _ more n s (after-pair qs _ due no-weightings) b) (reads-marked _ _ _ _ _ w h below place def) = absurd (false≢true (and-right (eqb due 0) false h))
+  one-more (inside _ cs _ _ more n s (after-pair qs _ due one-weighting) b) (reads-marked _ _ _ _ _ w h below place def) =
+      one-marked cs [] qs [] [] more n w s (none-due (weighted [] qs [] []) due more n h b) below place def
+  one-more (inside _ cs _ _ more n s (after-weight vs qs ws) b) (reads-marked _ _ _ _ _ w h below place def) =
+      rw (marked-added vs qs ws [] w) (one-marked cs vs qs ws [] more n w s b (rw (last-of vs _) at below) place def)
+  one-more (inside _ cs _ _ more n s (after-marked vs qs ws ms) b) (reads-marked _ _ _ _ _ w h below place def) =
+      rw (marked-added vs qs ws ms w) (one-marked cs vs qs ws ms more n w s b (rw (last-of vs _) at below) place def)
+  one-more (inside _ cs _ _ more n s (after-weighting vs qs) b) (reads-marked _ _ _ _ _ w h below place def) =
+      rw (marked-added vs qs [] [] w) (one-marked cs vs qs [] [] more n w s b (rw (last-of vs _) at below) place def)
+  one-more (inside last cs c due more n s st b) (reads-weighting _ _ _ _ _ h still) =
+      one-weighting-more cs c more n s (subst (λ (d : ℕ). Begun p c d more n) (due-at-weighting (has-weighting (some c)) st h) b) still
 
   -- TO THE END
 
   at-end : {rs : List Record} {x : Certificate-reading} → Reached p rs x → (cs : List Component) → cert-end x ≡ passed cs → Ended p rs cs
   unfolding cert-end components-of with-begun component-records
   at-end at-start cs e =
-      subst (Ended p []) (passed-same (test-held (may-follow components-start certificate-edge 0 (has-weighting none)) _ _ e .1))
+      subst (Ended p []) (passed-same (test-held (may-follow components-start certificate-edge 0 (has-weighting none) && true) _ _ e .1))
       (record { records = refl; shaped = each-nil })
-  at-end (inside last ds c due n s st b) cs e =
-      let t = test-held (may-follow last certificate-edge due (has-weighting (some c))) _ _ e in
-      let all = due-at-end (has-weighting (some c)) st (t .0) in
-      subst (Ended p _) (passed-same (t .1)) (ended p ds c n s (subst (λ (d : ℕ). Begun p c d n) all b))
+  at-end (inside last ds c due more n s st b) cs e =
+      let may = may-follow last certificate-edge due (has-weighting (some c)) in
+      let t = test-held (may && eqb more 0) _ _ e in
+      let none-due = due-at-end (has-weighting (some c)) st (and-left may _ (t .0)) in
+      subst (Ended p _) (passed-same (t .1)) (ended p ds c due more n s none-due (eqb-true more 0 (and-right may _ (t .0))) b)
 
   from-there : (rs before : List Record) (x : Certificate-reading) (cs : List Component) → Reached p before x → cert-from p rs x ≡ passed cs → Ended p (before ++ rs) cs
   unfolding cert-from

@@ -6,7 +6,7 @@ use mathlib.Core.Option.{some}
 use Prim.Native.Nat.{ℕ, zero, suc, _+_, _-_, _%_, _≤_, _<_}
 use native.Mathlib.Nat.{add-zero}
 use native.Mathlib.Omega.{arith}
-use lib.ListN.{length, replicate, length-append}
+use lib.ListN.{length, length-append}
 use borrow.Author.Tests.{le-ltb, le-leb, eq-eqb}
 use Rattle.rewriting.specs.Terms.{System}
 use Rattle.rewriting.specs.Pairs.{Pair}
@@ -20,14 +20,14 @@ use Rattle.packs.specs.Encoding.{Good-pack}
 use Rattle.pairs.specs.Listing.{pair-records}
 use Rattle.polynomials.specs.Polynomials.{Weight, Weighting}
 use Rattle.polynomials.specs.Judging.{is-none}
-use Rattle.certificates.specs.Components.{Component, no-weighting, with-pair, last-weighting, on-last, add-weight, add-marked, with-weight, with-marked, Pairs-rise, Weights-rise}
-use Rattle.certificates.specs.CertificateReading.{Certificate-reading, going-on, most-certificate-bytes, most-weightings, with-begun, components-of, has-weighting, weights-below, cert-from, components-from, read-certificate}
-use Rattle.certificates.specs.Encoding.{weight-records, weighting-records, component-records, certificate-bytes, Good-certificate}
+use Rattle.certificates.specs.Components.{Component, first-weighting, with-pair, with-weighting, Pairs-rise, Weights-rise}
+use Rattle.certificates.specs.CertificateReading.{Certificate-reading, going-on, most-certificate-bytes, with-begun, components-of, has-weighting, weights-below, cert-from, components-from, read-certificate}
+use Rattle.certificates.specs.Encoding.{weight-records, beginning, weighting-records, component-records, certificate-bytes, Good-certificate}
 use Rattle.certificates.proofs.Rising.{below-next}
-use Rattle.certificates.proofs.OneRecord.{nothing-read, begun-with, reads-row, Reads, reads-component, reads-pair, reads-weight, reads-marked, reads-passes}
-use Rattle.certificates.proofs.Shapes.{Counted, In-order, Is-pair, At-place, Of-defined, Weighting-shaped, Shaped, good-components-shaped, good-components-fit}
-use Rattle.certificates.proofs.Encoding.{records-of, components-few, components-in-range}
-use Rattle.certificates.proofs.Places.{weighted, Fresh, fresh-records, fresh-again, Whole, ends-in-pair, ends-in-weight, ends-in-marked, whole-marked, Ready, at-start, at-whole, ready-component, ready-end}
+use Rattle.certificates.proofs.OneRecord.{nothing-read, begun-with, reads-row, Reads, reads-component, reads-pair, reads-weight, reads-marked, reads-weighting, reads-passes}
+use Rattle.certificates.proofs.Shapes.{Is-pair, At-place, Of-defined, Weighting-shaped, Shaped, Begun, begun-whole, good-components-shaped, good-components-fit}
+use Rattle.certificates.proofs.Encoding.{weight-record, records-of, components-few, components-in-range}
+use Rattle.certificates.proofs.Places.{weighted, some-weighting, last-of, weight-added, marked-added, Whole, ends-in-pair, ends-in-weight, ends-in-marked, ends-in-weighting, whole-marked, whole-weighting, Ready, at-start, at-whole, ready-component, ready-more, ready-end, Fresh, no-weightings, fresh-records, fresh-again}
 
 module _ (p : System) where
   -- ONE RECORD AFTER ANOTHER
@@ -60,9 +60,9 @@ module _ (p : System) where
 
   module _ (cs : List Component) where
     -- a component's pairs, after those read so far; some may still be due after them
-    module _ (vs : List Weighting) where
+    module _ (vs : List Weighting) (more : ℕ) where
       abbrev with-pairs : (last : ℕ) → List Pair → (due : ℕ) → Certificate-reading
-      with-pairs last qs due = going-on last cs (record { pairs = qs; weightings = vs }) due
+      with-pairs last qs due = going-on last cs (record { pairs = qs; weightings = vs }) due more
 
       pairs-back : (last due left : ℕ) (done : List Pair) (q : Pair) (todo : List Pair) → length (q ∷ todo) + left ≡ due
           → may-follow last 7 due (has-weighting (some (record { pairs = done; weightings = vs }))) ≡ true
@@ -72,12 +72,12 @@ module _ (p : System) where
       pairs-back last due left done q [] e h rise are =
           let less : due - 1 ≡ left = omega arith in
           rw less at
-          (reads-one (reads-pair last cs _ due q h (below-next (λ q. q .at-rule) (λ q. q .place) done q [] rise) (each-head are)))
+          (reads-one (reads-pair last cs _ due more q h (below-next (λ q. q .at-rule) (λ q. q .place) done q [] rise) (each-head are)))
       pairs-back last due left done q (r ∷ todo) e h rise are =
           let regrouped = append-assoc done (q ∷ []) (r ∷ todo) in
           let rest =
           pairs-back 7 (due - 1) left (done ++ (q ∷ [])) r todo (omega arith) (le-leb 1 (due - 1) (omega arith)) (rw regrouped rise) (each-tail are) in
-          reads-next _ _ _ _ _ (reads-pair last cs _ due q h (below-next (λ q. q .at-rule) (λ q. q .place) done q (r ∷ todo) rise) (each-head are))
+          reads-next _ _ _ _ _ (reads-pair last cs _ due more q h (below-next (λ q. q .at-rule) (λ q. q .place) done q (r ∷ todo) rise) (each-head are))
           (rw regrouped at rest)
 
       pub all-pairs-back : (q : Pair) (qs : List Pair) (left due : ℕ) → length (q ∷ qs) + left ≡ due → Pairs-rise (q ∷ qs) → Each (Is-pair p) (q ∷ qs)
@@ -85,98 +85,145 @@ module _ (p : System) where
       unfolding may-follow entry order when-in lets
       all-pairs-back q qs left due e rise are = pairs-back 6 due left [] q qs e refl rise are
 
-    -- its weights, and its marked weights
     module _ (qs : List Pair) where
-      abbrev with-weighting : (last : ℕ) → (ws ms : List Weight) → Certificate-reading
-      with-weighting last ws ms = going-on last cs (weighted qs ws ms) 0
+      -- the weights and marked weights of a weighting, after other weightings
+      module _ (vs : List Weighting) (more : ℕ) where
+        abbrev with-last : (last : ℕ) → (ws ms : List Weight) → Certificate-reading
+        with-last last ws ms = going-on last cs (weighted vs qs ws ms) 0 more
 
-      weights-back : (last : ℕ) (done : List Weight) (w : Weight) (todo : List Weight) → may-follow last 8 0 true ≡ true
-          → Weights-rise (done ++ (w ∷ todo)) → Each (At-place p) (w ∷ todo)
-          → Reads-all (with-weighting last done []) (weight-records W-weight (w ∷ todo)) (with-weighting 8 (done ++ (w ∷ todo)) [])
-      unfolding weight-records with-weight on-last add-weight has-weighting is-none last-weighting weights-below may-follow entry order when-in lets
-      weights-back last done w [] h rise at =
-          reads-one (reads-weight last cs _ 0 w h (below-next (λ w. w .symbol) (λ w. w .place) done w [] rise) (each-head at))
-      weights-back last done w (v ∷ todo) h rise at =
-          let regrouped = append-assoc done (w ∷ []) (v ∷ todo) in
-          let rest = weights-back 8 (done ++ (w ∷ [])) v todo refl (rw regrouped rise) (each-tail at) in
-          reads-next _ _ _ _ _ (reads-weight last cs _ 0 w h (below-next (λ w. w .symbol) (λ w. w .place) done w (v ∷ todo) rise) (each-head at))
-          (rw regrouped at rest)
+        one-weight-back : (last : ℕ) (ws ms : List Weight) (w : Weight) → may-follow last 8 0 true ≡ true → weights-below ws (w .symbol) (w .place) ≡ true
+            → At-place p w → Reads p (with-last last ws ms) (weight-record W-weight w) (with-last 8 (ws ++ (w ∷ [])) ms)
+        unfolding has-weighting
+        one-weight-back last ws ms w h below at =
+            rw (weight-added vs qs ws ms w) at
+            (reads-weight last cs (weighted vs qs ws ms) 0 more w (rw (some-weighting vs _) h) (rw (last-of vs _) below) at)
 
-      marked-back : (last : ℕ) (ws done : List Weight) (w : Weight) (todo : List Weight) → may-follow last 9 0 true ≡ true
-          → Weights-rise (done ++ (w ∷ todo)) → Each (At-place p) (w ∷ todo) → Each (Of-defined p) (w ∷ todo)
-          → Reads-all (with-weighting last ws done) (weight-records M-marked (w ∷ todo)) (with-weighting 9 ws (done ++ (w ∷ todo)))
-      unfolding weight-records with-marked on-last add-marked has-weighting is-none last-weighting weights-below may-follow entry order when-in lets
-      marked-back last ws done w [] h rise at def =
-          reads-one
-          (reads-marked last cs _ 0 w h (below-next (λ w. w .symbol) (λ w. w .place) done w [] rise) (each-head at) (each-head def))
-      marked-back last ws done w (v ∷ todo) h rise at def =
-          let regrouped = append-assoc done (w ∷ []) (v ∷ todo) in
-          let rest = marked-back 9 ws (done ++ (w ∷ [])) v todo refl (rw regrouped rise) (each-tail at) (each-tail def) in
-          reads-next _ _ _ _ _
-          (reads-marked last cs _ 0 w h (below-next (λ w. w .symbol) (λ w. w .place) done w (v ∷ todo) rise) (each-head at) (each-head def))
-          (rw regrouped at rest)
+        one-marked-back : (last : ℕ) (ws ms : List Weight) (w : Weight) → may-follow last 9 0 true ≡ true → weights-below ms (w .symbol) (w .place) ≡ true
+            → At-place p w → Of-defined p w → Reads p (with-last last ws ms) (weight-record M-marked w) (with-last 9 ws (ms ++ (w ∷ [])))
+        unfolding has-weighting
+        one-marked-back last ws ms w h below at def =
+            rw (marked-added vs qs ws ms w) at
+            (reads-marked last cs (weighted vs qs ws ms) 0 more w (rw (some-weighting vs _) h) (rw (last-of vs _) below) at def)
 
-      -- there may be none of either
-      all-weights-back : (ws : List Weight) → Weights-rise ws → Each (At-place p) ws
-          → (last : ℕ) × Whole last × Reads-all (with-weighting 7 [] []) (weight-records W-weight ws) (with-weighting last ws [])
-      unfolding weight-records may-follow entry order when-in lets
-      all-weights-back [] rise at = (7, ends-in-pair, reads-none _)
-      all-weights-back (w ∷ ws) rise at = (8, ends-in-weight, weights-back 7 [] w ws refl rise at)
+        weights-back : (last : ℕ) (done : List Weight) (w : Weight) (todo : List Weight) → may-follow last 8 0 true ≡ true
+            → Weights-rise (done ++ (w ∷ todo)) → Each (At-place p) (w ∷ todo)
+            → Reads-all (with-last last done []) (weight-records W-weight (w ∷ todo)) (with-last 8 (done ++ (w ∷ todo)) [])
+        unfolding weight-records weights-below may-follow entry order when-in lets
+        weights-back last done w [] h rise at =
+            reads-one (one-weight-back last done [] w h (below-next (λ w. w .symbol) (λ w. w .place) done w [] rise) (each-head at))
+        weights-back last done w (v ∷ todo) h rise at =
+            let regrouped = append-assoc done (w ∷ []) (v ∷ todo) in
+            let rest = weights-back 8 (done ++ (w ∷ [])) v todo refl (rw regrouped rise) (each-tail at) in
+            reads-next _ _ _ _ _ (one-weight-back last done [] w h (below-next (λ w. w .symbol) (λ w. w .place) done w (v ∷ todo) rise) (each-head at))
+            (rw regrouped at rest)
 
-      all-marked-back : (last : ℕ) (ws ms : List Weight) → Whole last → Weights-rise ms → Each (At-place p) ms → Each (Of-defined p) ms
-          → (next : ℕ) × Whole next × Reads-all (with-weighting last ws []) (weight-records M-marked ms) (with-weighting next ws ms)
-      unfolding weight-records
-      all-marked-back last ws [] whole rise at def = (last, whole, reads-none _)
-      all-marked-back last ws (m ∷ ms) whole rise at def = (9, ends-in-marked, marked-back last ws [] m ms (whole-marked whole) rise at def)
+        marked-back : (last : ℕ) (ws done : List Weight) (w : Weight) (todo : List Weight) → may-follow last 9 0 true ≡ true
+            → Weights-rise (done ++ (w ∷ todo)) → Each (At-place p) (w ∷ todo) → Each (Of-defined p) (w ∷ todo)
+            → Reads-all (with-last last ws done) (weight-records M-marked (w ∷ todo)) (with-last 9 ws (done ++ (w ∷ todo)))
+        unfolding weight-records weights-below may-follow entry order when-in lets
+        marked-back last ws done w [] h rise at def =
+            reads-one
+            (one-marked-back last ws done w h (below-next (λ w. w .symbol) (λ w. w .place) done w [] rise) (each-head at) (each-head def))
+        marked-back last ws done w (v ∷ todo) h rise at def =
+            let regrouped = append-assoc done (w ∷ []) (v ∷ todo) in
+            let rest = marked-back 9 ws (done ++ (w ∷ [])) v todo refl (rw regrouped rise) (each-tail at) (each-tail def) in
+            reads-next _ _ _ _ _
+            (one-marked-back last ws done w h (below-next (λ w. w .symbol) (λ w. w .place) done w (v ∷ todo) rise) (each-head at) (each-head def))
+            (rw regrouped at rest)
 
-      -- its weightings, none or one
-      pub weightings-back : (vs : List Weighting) → length vs ≤ most-weightings → Each (Weighting-shaped p) vs
+        -- there may be none of either
+        all-weights-back : (last : ℕ) (ws : List Weight) → Whole last → may-follow last 8 0 true ≡ true → Weights-rise ws → Each (At-place p) ws
+            → (next : ℕ) × Whole next × Reads-all (with-last last [] []) (weight-records W-weight ws) (with-last next ws [])
+        unfolding weight-records
+        all-weights-back last [] whole h rise at = (last, whole, reads-none _)
+        all-weights-back last (w ∷ ws) whole h rise at = (8, ends-in-weight, weights-back last [] w ws h rise at)
+
+        all-marked-back : (last : ℕ) (ws ms : List Weight) → Whole last → Weights-rise ms → Each (At-place p) ms → Each (Of-defined p) ms
+            → (next : ℕ) × Whole next × Reads-all (with-last last ws []) (weight-records M-marked ms) (with-last next ws ms)
+        unfolding weight-records
+        all-marked-back last ws [] whole rise at def = (last, whole, reads-none _)
+        all-marked-back last ws (m ∷ ms) whole rise at def = (9, ends-in-marked, marked-back last ws [] m ms (whole-marked whole) rise at def)
+
+        -- a weighting that has begun
+        weighting-back : (last : ℕ) (v : Weighting) → Whole last → may-follow last 8 0 true ≡ true → Weighting-shaped p v
+            → (next : ℕ) × Whole next
+            × Reads-all (with-last last [] []) (weight-records W-weight (v .weights) ++ weight-records M-marked (v .marked))
+            (with-last next (v .weights) (v .marked))
+        weighting-back last v whole h shape =
+            let weights = all-weights-back last (v .weights) whole h (shape .weights-rise) (shape .weights-placed) in
+            let marked =
+            all-marked-back (weights .0) (v .weights) (v .marked) (weights .1) (shape .marked-rise) (shape .marked-placed) (shape .marked-defined) in
+            (marked .0, marked .1, reads-both (weights .2) (marked .2))
+
+      -- the weightings after the first, each begun by its L; others may still be to begin
+      later-back : (last : ℕ) (v : Weighting) (vs todo : List Weighting) (more left : ℕ) → Whole last → length todo + left ≡ more
+          → Each (Weighting-shaped p) todo
+          → (next : ℕ) × Whole next
+          × Reads-all (going-on last cs (record { pairs = qs; weightings = v ∷ vs }) 0 more) (weighting-records (suc (length vs)) todo)
+          (going-on next cs (record { pairs = qs; weightings = v ∷ (vs ++ todo) }) 0 left)
+      unfolding weighting-records beginning with-weighting has-weighting is-none may-follow entry order when-in lets
+      later-back last v vs [] more left whole e s =
+          let same : more ≡ left = omega arith in
+          (last, whole, rw (append-nil, same) (reads-none _))
+      later-back last v vs (w ∷ todo) more left whole e s =
+          let this = weighting-back (v ∷ vs) (more - 1) 10 w ends-in-weighting refl (each-head s) in
+          let rest = later-back (this .0) v (vs ++ (w ∷ [])) todo (more - 1) left (this .1) (omega arith) (each-tail s) in
+          let count : length (vs ++ (w ∷ [])) ≡ suc (length vs) = length-append vs (w ∷ []) ∙ omega arith in
+          let begins = reads-weighting last cs (record { pairs = qs; weightings = v ∷ vs }) 0 more (whole-weighting whole) (omega arith) in
+          (rest .0, rest .1, reads-next _ _ _ _ _ begins (rw append-assoc at (reads-both (this .2) (rw (count, append-assoc vs) at (rest .2)))))
+
+      -- all of them, b as the C record has it: it began the first
+      weightings-back : (vs : List Weighting) (more b : ℕ) → length vs + more ≡ b → (length vs ≡ 0 → more ≡ 0) → Each (Weighting-shaped p) vs
           → (last : ℕ) × Whole last
-          × Reads-all (going-on 7 cs (record { pairs = qs; weightings = replicate (length vs) no-weighting }) 0) (weighting-records vs)
-          (going-on last cs (record { pairs = qs; weightings = vs }) 0)
-      unfolding weighting-records
-      weightings-back [] few s = (7, ends-in-pair, reads-none _)
-      weightings-back (v ∷ []) few s =
-          let shape = each-head s in
-          let weights = all-weights-back (v .weights) (shape .weights-rise) (shape .weights-placed) in
-          let marked =
-          all-marked-back (weights .0) (v .weights) (v .marked) (weights .1) (shape .marked-rise) (shape .marked-placed) (shape .marked-defined) in
-          (marked .0, marked .1, rw append-nil (reads-both (weights .2) (marked .2)))
-      weightings-back (v ∷ w ∷ vs) few s = absurd (omega arith)
+          × Reads-all (going-on 7 cs (record { pairs = qs; weightings = first-weighting b }) 0 (b - 1)) (weighting-records 0 vs)
+          (going-on last cs (record { pairs = qs; weightings = vs }) 0 more)
+      unfolding weighting-records beginning first-weighting may-follow entry order when-in lets
+      weightings-back [] more b e first s =
+          let again = fresh-again more b no-weightings e first in
+          (7, ends-in-pair, rw (← (again .0), ← (again .1)) (reads-none _))
+      weightings-back (v ∷ vs) more zero e first s = absurd (omega arith)
+      weightings-back (v ∷ vs) more (suc b) e first s =
+          let this = weighting-back [] (suc b - 1) 7 v ends-in-pair refl (each-head s) in
+          let rest = later-back (this .0) v [] vs (suc b - 1) more (this .1) (omega arith) (each-tail s) in
+          (rest .0, rest .1, rw append-assoc at (reads-both (this .2) (rest .2)))
 
       -- or they are as the C record left them, while pairs are due
-      after-pairs-back : (vs : List Weighting) (left : ℕ) → length vs ≤ most-weightings → Each (Weighting-shaped p) vs → (1 ≤ left → Fresh vs)
+      after-pairs-back : (vs : List Weighting) (left more n : ℕ) → Begun p (record { pairs = qs; weightings = vs }) left more n → (1 ≤ left → Fresh vs)
           → (last : ℕ) × (left ≡ 0 → Whole last)
-          × Reads-all (going-on 7 cs (record { pairs = qs; weightings = replicate (length vs) no-weighting }) left) (weighting-records vs)
-          (going-on last cs (record { pairs = qs; weightings = vs }) left)
-      after-pairs-back vs zero few s fresh = let back = weightings-back vs few s in (back .0, (λ e. back .1), back .2)
-      after-pairs-back vs (suc left) few s fresh =
+          × Reads-all (going-on 7 cs (record { pairs = qs; weightings = first-weighting (length vs + more) }) left (length vs + more - 1)) (weighting-records 0 vs)
+          (going-on last cs (record { pairs = qs; weightings = vs }) left more)
+      after-pairs-back vs zero more n b fresh =
+          let back = weightings-back vs more (length vs + more) refl (b .first-begun) (b .in-order .weightings-shaped) in
+          (back .0, (λ e. back .1), back .2)
+      after-pairs-back vs (suc left) more n b fresh =
           let as-begun = fresh (omega arith) in
-          (7, (λ e. ends-in-pair), rw (← (fresh-again as-begun), fresh-records as-begun) (reads-none _))
+          let again = fresh-again more (length vs + more) as-begun refl (b .first-begun) in
+          (7, (λ e. ends-in-pair), rw (← (again .0), ← (again .1), fresh-records as-begun) (reads-none _))
 
-    -- after its C record: the pairs, of which some may still be due, then the weights
-    after-C-back : (qs : List Pair) (vs : List Weighting) (n left : ℕ) → length qs + left ≡ n → Counted (length vs) n → (1 ≤ left → Fresh vs)
-        → In-order p (record { pairs = qs; weightings = vs })
+    -- after its C record: the pairs, of which some may still be due, then the weightings
+    after-C-back : (qs : List Pair) (vs : List Weighting) (n left more : ℕ) → Begun p (record { pairs = qs; weightings = vs }) left more n
+        → (1 ≤ left → Fresh vs)
         → (last : ℕ) × (left ≡ 0 → Whole last)
-        × Reads-all (going-on 6 cs (begun-with (length vs)) n) (pair-records qs ++ weighting-records vs)
-        (going-on last cs (record { pairs = qs; weightings = vs }) left)
+        × Reads-all (going-on 6 cs (begun-with (length vs + more)) n (length vs + more - 1)) (pair-records qs ++ weighting-records 0 vs)
+        (going-on last cs (record { pairs = qs; weightings = vs }) left more)
     unfolding pair-records
-    after-C-back [] vs n left e counts fresh o =
-        let some-due = counts .pairs-some in
+    after-C-back [] vs n left more b fresh =
+        let some-due = b .counts .pairs-some in
+        let counted = b .counted in
         let all : n ≡ left = omega arith in
         let as-begun = fresh (omega arith) in
-        (6, (λ z. absurd (omega arith)), rw (all, ← (fresh-again as-begun), fresh-records as-begun) (reads-none _))
-    after-C-back (q ∷ qs) vs n left e counts fresh o =
-        let weightings = after-pairs-back (q ∷ qs) vs left (counts .weightings-few) (o .weightings-shaped) fresh in
-        (weightings .0, weightings .1, reads-both (all-pairs-back _ q qs left n e (o .pairs-rise) (o .are-pairs)) (weightings .2))
+        let again = fresh-again more (length vs + more) as-begun refl (b .first-begun) in
+        (6, (λ z. absurd (omega arith)), rw (all, ← (again .0), ← (again .1), fresh-records as-begun) (reads-none _))
+    after-C-back (q ∷ qs) vs n left more b fresh =
+        let weightings = after-pairs-back (q ∷ qs) vs left more n b fresh in
+        (weightings .0, weightings .1, reads-both (all-pairs-back _ _ q qs left n (b .counted) (b .in-order .pairs-rise) (b .in-order .are-pairs)) (weightings .2))
 
-  -- a component as far as it has come, of n pairs
-  pub begun-back : (x : Certificate-reading) (c : Component) (n left : ℕ) → Ready x → length (c .pairs) + left ≡ n → Counted (length (c .weightings)) n
-      → (1 ≤ left → Fresh (c .weightings)) → In-order p c
-      → (last : ℕ) × (left ≡ 0 → Whole last) × Reads-all x (records-of (length (components-of x)) n c) (going-on last (components-of x) c left)
-  begun-back x c n left ready e counts fresh o =
-      let rest = after-C-back (components-of x) (c .pairs) (c .weightings) n left e counts fresh o in
-      (rest .0, rest .1, reads-next x _ _ _ _ (reads-component x (length (c .weightings)) n (ready-component ready) counts) (rest .2))
+  -- a component as far as it has come
+  pub begun-back : (x : Certificate-reading) (c : Component) (n left more : ℕ) → Ready x → Begun p c left more n → (1 ≤ left → Fresh (c .weightings))
+      → (last : ℕ) × (left ≡ 0 → Whole last) × Reads-all x (records-of (length (components-of x)) n more c) (going-on last (components-of x) c left more)
+  begun-back x c n left more ready b fresh =
+      let rest = after-C-back (components-of x) (c .pairs) (c .weightings) n left more b fresh in
+      (rest .0, rest .1, reads-next x _ _ _ _ (reads-component x (length (c .weightings) + more) n (ready-component ready) (ready-more ready) (b .counts)) (rest .2))
 
   -- whole components
   pub components-back : (todo : List Component) (x : Certificate-reading) (i : ℕ) → Ready x → length (components-of x) ≡ i → Each (Shaped p) todo
@@ -184,14 +231,13 @@ module _ (p : System) where
   unfolding component-records components-of with-begun
   components-back [] x i ready e s = (x, ready, sym (append-nil (components-of x)), reads-none x)
   components-back (c ∷ todo) x i ready e s =
-      let shape = each-head s in
-      let this = begun-back x c (length (c .pairs)) 0 ready (add-zero _) (shape .counts) (λ h. absurd (omega arith)) (shape .in-order) in
+      let this = begun-back x c (length (c .pairs)) 0 0 ready (begun-whole p c (each-head s)) (λ h. absurd (omega arith)) in
       let grown : length (components-of x ++ (c ∷ [])) ≡ suc i = length-append (components-of x) (c ∷ []) ∙ omega arith in
-      let rest = components-back todo (going-on (this .0) (components-of x) c 0) (suc i) (at-whole _ _ c (this .1 refl)) grown (each-tail s) in (
+      let rest = components-back todo (going-on (this .0) (components-of x) c 0 0) (suc i) (at-whole _ _ c (this .1 refl)) grown (each-tail s) in (
         rest .0,
         rest .1,
         rest .2 ∙ append-assoc (components-of x) (c ∷ []) todo,
-        rw (append-assoc (pair-records (c .pairs))) at (reads-both (rw e at (this .2)) (rest .3)),
+        rw (append-assoc (pair-records (c .pairs))) at (reads-both (rw (e, add-zero) at (this .2)) (rest .3)),
       )
 
   -- the records of components that are shaped are read back

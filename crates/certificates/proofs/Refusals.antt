@@ -6,11 +6,12 @@ use mathlib.Core.List.{List, [], _∷_, _++_}
 use mathlib.Core.Option.{Option, none, some}
 use Prim.Native.Nat.{ℕ, _%_, _≤_, _<_}
 use native.Mathlib.Omega.{arith}
+use lib.Dec.{eqb}
 use lib.ListN.{length}
 use borrow.Author.Tests.{lt-ltb}
 use Rattle.rewriting.specs.Terms.{System}
 use Rattle.rewriting.specs.Systems.{member}
-use Rattle.rewriting.proofs.Basics.{and-both}
+use Rattle.rewriting.proofs.Basics.{and-left, and-both}
 use Rattle.records.specs.declared.Record.{Record}
 use Rattle.records.specs.Outcomes.{Outcome, refused, passed, after, refusal}
 use Rattle.records.specs.Records.{all-records, length-bad}
@@ -19,7 +20,7 @@ use Rattle.records.proofs.Outcomes.{test-held, test-failed, after-passed, after
 use Rattle.records.proofs.Bytes.{records-append}
 use Rattle.records.proofs.Table.{may-follow-stands, starts-agree}
 use Rattle.certificates.specs.Components.{Component}
-use Rattle.certificates.specs.CertificateReading.{Certificate-reading, most-certificate-bytes, has-weighting, component-read, pair-read, weight-read, marked-read, inside-read, cert-step, cert-end, cert-from, cert-steps, components-from, read-certificate}
+use Rattle.certificates.specs.CertificateReading.{Certificate-reading, most-certificate-bytes, has-weighting, component-read, pair-read, weight-read, marked-read, weighting-read, inside-read, cert-step, cert-end, cert-from, cert-steps, components-from, read-certificate}
 use Rattle.certificates.proofs.OneRecord.{nothing-read, passes-reads, reads-row}
 
 -- THE NUMBERS
@@ -60,10 +61,14 @@ module _ (p : System) (r : Record) (x : Certificate-reading) where
   unfolding marked-read
   marked-tabled c = search tabled
 
+  weighting-tabled : (c : Component) → In-table (weighting-read r x c)
+  unfolding weighting-read
+  weighting-tabled c = search tabled
+
   inside-tabled : (begun : Option Component) → In-table (inside-read p r x begun)
   unfolding inside-read
   inside-tabled none = stray-record
-  inside-tabled (some c) = search (tabled, pair-tabled, weight-tabled, marked-tabled)
+  inside-tabled (some c) = search (tabled, pair-tabled, weight-tabled, marked-tabled, weighting-tabled)
 
   step-tabled : In-table (cert-step p r x)
   unfolding cert-step
@@ -147,7 +152,8 @@ module _ (p : System) where
   pub records-obey : (rs : List Record) (x : Certificate-reading) (cs : List Component) → 5 ≤ x .last → x .last < rows → cert-from p rs x ≡ passed cs
       → obeys (x .last) certificate-edge rs ≡ true
   unfolding cert-from cert-end cert-step obeys
-  records-obey [] x cs l m e = may-follow-stands (x .last) certificate-edge (x .due) (has-weighting (x .begun)) (test-held _ _ _ e .0)
+  records-obey [] x cs l m e =
+      may-follow-stands (x .last) certificate-edge (x .due) (has-weighting (x .begun)) (and-left _ (eqb (x .more) 0) (test-held _ _ _ e .0))
   records-obey (r ∷ rs) x cs l m e =
       let step = after-passed (cert-step p r x) _ e in
       let y : Certificate-reading = step .0 in

@@ -1,9 +1,10 @@
 -- The shape of a component: all that a good component is, but for the size of its weights' values, which only the bytes
 -- of a file bound.
-use mathlib.Core.Path.{_≡_}
+use mathlib.Core.Path.{_≡_, refl, sym, _∙_}
 use mathlib.Core.Bool.{true}
 use mathlib.Core.List.{List}
-use Prim.Native.Nat.{ℕ, _≤_, _<_}
+use Prim.Native.Nat.{ℕ, _+_, _≤_, _<_}
+use native.Mathlib.Nat.{add-zero}
 use lib.Dec.{ltb}
 use lib.ListN.{length, getD}
 use borrow.Author.Tests.{ltb-true, lt-ltb, leb-true, le-leb}
@@ -40,7 +41,7 @@ pub record Weighting-shaped (p : System) (w : Weighting) : Type 0 where
   pub marked-placed : Each (At-place p) (w .marked)
   pub marked-defined : Each (Of-defined p) (w .marked)
 
--- what a component's P, W and M records bring
+-- what a component's P, W, M and L records bring
 pub record In-order (p : System) (c : Component) : Type 0 where
   pub pairs-rise : Pairs-rise (c .pairs)
   pub are-pairs : Each (Is-pair p) (c .pairs)
@@ -50,6 +51,22 @@ pub record In-order (p : System) (c : Component) : Type 0 where
 pub record Shaped (p : System) (c : Component) : Type 0 where
   pub counts : Counted (length (c .weightings)) (length (c .pairs))
   pub in-order : In-order p c
+
+-- a component of n pairs as far as it has come: the pairs still due, the weightings still to begin, after the first
+pub record Begun (p : System) (c : Component) (due more n : ℕ) : Type 0 where
+  pub counted : length (c .pairs) + due ≡ n
+  pub counts : Counted (length (c .weightings) + more) n
+  pub first-begun : length (c .weightings) ≡ 0 → more ≡ 0
+  pub in-order : In-order p c
+
+-- it is shaped where nothing is missing
+pub begun-whole : (p : System) (c : Component) → Shaped p c → Begun p c 0 0 (length (c .pairs))
+begun-whole p c s = record { counted = add-zero _; counts = rw add-zero (s .counts); first-begun = λ e. refl; in-order = s .in-order }
+
+pub whole-shaped : (p : System) (c : Component) (n : ℕ) → Begun p c 0 0 n → (n ≡ length (c .pairs)) × Shaped p c
+whole-shaped p c n b =
+    let all : n ≡ length (c .pairs) = sym (b .counted) ∙ add-zero _ in
+    (all, record { counts = rw (all, add-zero) at (b .counts); in-order = b .in-order })
 
 -- the values fit their field of a record
 abbrev pub Value-fits : Weight → Type 0

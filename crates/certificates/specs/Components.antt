@@ -2,12 +2,13 @@
 use mathlib.Core.Path.{_≡_}
 use mathlib.Core.Bool.{true}
 use mathlib.Core.List.{List, [], _∷_, _++_}
+use Prim.Native.Nat.{ℕ, zero, suc}
 use Rattle.rewriting.specs.Pairs.{Pair}
 use Rattle.records.specs.declared.Record.{Record}
 use Rattle.records.specs.Rising.{rising}
 use Rattle.polynomials.specs.Polynomials.{Weight, Weighting}
 
--- pairs, and the weightings (none, or one) under which they are judged
+-- pairs, and the weightings under which they are judged, one after the other; there may be none
 pub record Component : Type 0 where
   pub pairs : List Pair
   pub weightings : List Weighting
@@ -17,6 +18,11 @@ no-component = record { pairs = []; weightings = [] }
 
 abbrev pub no-weighting : Weighting
 no-weighting = record { weights = []; marked = [] }
+
+-- the weightings that a C record begins by itself, of so many: the first, if there is one
+unfoldable pub first-weighting : (weightings : ℕ) → List Weighting
+first-weighting zero = []
+first-weighting (suc b) = no-weighting ∷ []
 
 unfoldable pub with-pair : Component → Pair → Component
 with-pair c q = record { pairs = c .pairs ++ (q ∷ []); weightings = c .weightings }
@@ -43,6 +49,10 @@ with-weight c x = record { pairs = c .pairs; weightings = on-last (add-weight x)
 
 unfoldable pub with-marked : Component → Weight → Component
 with-marked c x = record { pairs = c .pairs; weightings = on-last (add-marked x) (c .weightings) }
+
+-- an L record begins the next one
+unfoldable pub with-weighting : Component → Component
+with-weighting c = record { pairs = c .pairs; weightings = c .weightings ++ (no-weighting ∷ []) }
 
 -- a W or M record's weight
 abbrev pub weight-of : Record → Weight

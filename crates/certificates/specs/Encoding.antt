@@ -2,13 +2,13 @@
 use mathlib.Core.Path.{_≡_}
 use mathlib.Core.Bool.{true}
 use mathlib.Core.List.{List, [], _∷_, _++_}
-use Prim.Native.Nat.{ℕ, suc, _≤_, _<_}
+use Prim.Native.Nat.{ℕ, zero, suc, _≤_, _<_}
 use lib.ListN.{length, getD}
 use Rattle.rewriting.specs.Terms.{System}
 use Rattle.rewriting.specs.Pairs.{is-pair, defined}
 use Rattle.records.specs.declared.Record.{Record}
 use Rattle.records.specs.Records.{a-record, all-record-bytes}
-use Rattle.records.specs.Order.{C-component, W-weight, M-marked}
+use Rattle.records.specs.Order.{C-component, W-weight, M-marked, L-weighting}
 use Rattle.pairs.specs.Listing.{a-pair, pair-records}
 use Rattle.polynomials.specs.Polynomials.{Weight, Weighting}
 use Rattle.certificates.specs.Components.{Component, no-component, no-weighting, Pairs-rise, Weights-rise}
@@ -17,16 +17,23 @@ unfoldable pub weight-records : (kind : ℕ) → List Weight → List Record
 weight-records k [] = []
 weight-records k (w ∷ ws) = a-record k (w .symbol) (w .place) (w .value) ∷ weight-records k ws
 
-unfoldable pub weighting-records : List Weighting → List Record
-weighting-records [] = []
-weighting-records (w ∷ ws) = weight-records W-weight (w .weights) ++ (weight-records M-marked (w .marked) ++ weighting-records ws)
+-- the first weighting begins with its component, each later one with its L
+unfoldable pub beginning : (number : ℕ) → List Record
+beginning zero = []
+beginning (suc k) = a-record L-weighting (suc k) 0 0 ∷ []
+
+-- weightings are numbered by their places, here from k
+unfoldable pub weighting-records : (k : ℕ) → List Weighting → List Record
+weighting-records k [] = []
+weighting-records k (w ∷ ws) =
+    beginning k ++ (weight-records W-weight (w .weights) ++ (weight-records M-marked (w .marked) ++ weighting-records (suc k) ws))
 
 -- components are numbered by their places, here from i
 unfoldable pub component-records : (i : ℕ) → List Component → List Record
 component-records i [] = []
 component-records i (c ∷ cs) =
     a-record C-component i (length (c .weightings)) (length (c .pairs))
-    ∷ (pair-records (c .pairs) ++ (weighting-records (c .weightings) ++ component-records (suc i) cs))
+    ∷ (pair-records (c .pairs) ++ (weighting-records 0 (c .weightings) ++ component-records (suc i) cs))
 
 unfoldable pub certificate-bytes : List Component → List ℕ
 certificate-bytes cs = all-record-bytes (component-records 0 cs)
@@ -47,9 +54,9 @@ pub record Good-weighting (p : System) (w : Weighting) : Type 0 where
   pub marked-placed : (k : ℕ) → k < length (w .marked) → Placed p (getD (w .marked) k no-weight)
   pub marked-defined : (k : ℕ) → k < length (w .marked) → defined p (getD (w .marked) k no-weight .symbol) ≡ true
 
--- what document 01 allows a component to be, in its own numbers
+-- what documents 01 and 02 allow a component to be, in their own numbers
 pub record Good-component (p : System) (c : Component) : Type 0 where
-  pub weightings-few : length (c .weightings) ≤ 1
+  pub weightings-few : length (c .weightings) ≤ 8
   pub pairs-some : 1 ≤ length (c .pairs)
   pub pairs-few : length (c .pairs) ≤ 2048
   pub alone : length (c .weightings) ≡ 0 → length (c .pairs) ≡ 1
