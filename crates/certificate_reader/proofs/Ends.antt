@@ -17,10 +17,10 @@ use Rattle.records.specs.Answers.{number-of}
 use Rattle.records.proofs.Bytes.{length-of-records, drop-records}
 use Rattle.certificate_reader.specs.declared.State.{State}
 use Rattle.certificates.specs.Components.{Component}
-use Rattle.certificates.specs.CertificateReading.{Certificate-reading, components-of, cert-step, cert-end, cert-from, components-from}
+use Rattle.certificates.specs.CertificateReading.{Certificate-reading, components-of, has-weighting, cert-step, cert-end, cert-from, components-from}
 use Rattle.certificate_reader.specs.Working.{Certificate-read}
 use Rattle.certificates.proofs.OneRecord.{nothing-read}
-use Rattle.certificate_reader.proofs.Mirrored.{may-follow-mirrored}
+use Rattle.certificate_reader.proofs.Mirrored.{may-follow-mirrored, none-missing, some-missing}
 use Rattle.certificate_reader.proofs.Turns.{Told}
 
 module _ (p : System) (ds : List ℕ) where
@@ -56,9 +56,17 @@ module _ (p : System) (ds : List ℕ) where
       unfolding cert-end
       ends-early e = ends-refused StrayRecord (at-end ∙ rw (may-follow-mirrored s x (told .mirrors) certificate-edge ∙ e))
 
-      pub ends-read : may-follow (s .last) certificate-edge (s .due) (s .weighted) ≡ true →
-          Certificate-read found (Passed (s .number))
-      unfolding cert-end Certificate-read components-from
-      ends-read e =
-          let passes : cert-end x ≡ passed (components-of x) = rw (may-follow-mirrored s x (told .mirrors) certificate-edge ∙ e) in
-          rw (at-end, passes) (ap passed (told .mirrors .number-is))
+      -- where the table lets it come, a weighting may be missing
+      module _ (may : may-follow (s .last) certificate-edge (s .due) (s .weighted) ≡ true) where
+        may-end : may-follow (x .last) certificate-edge (x .due) (has-weighting (x .begun)) ≡ true
+        may-end = may-follow-mirrored s x (told .mirrors) certificate-edge ∙ may
+
+        pub ends-missing : (s .more ≡ 0 → ⊥) → Certificate-read found (Refused StrayRecord)
+        unfolding cert-end
+        ends-missing missing = ends-refused StrayRecord (at-end ∙ rw (may-end, some-missing s x (told .mirrors) missing))
+
+        pub ends-read : s .more ≡ 0 → Certificate-read found (Passed (s .number))
+        unfolding cert-end Certificate-read components-from
+        ends-read no-more =
+            let passes : cert-end x ≡ passed (components-of x) = rw (may-end, none-missing s x (told .mirrors) no-more) in
+            rw (at-end, passes) (ap passed (told .mirrors .number-is))

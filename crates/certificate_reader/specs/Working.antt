@@ -38,14 +38,14 @@ unfoldable pub begun-pairs : Option Component → List Pair
 begun-pairs none = []
 begun-pairs (some c) = c .pairs
 
-unfoldable pub begun-weighting : Option Component → Weighting
-begun-weighting none = record { weights = []; marked = [] }
-begun-weighting (some c) = last-weighting (c .weightings)
+unfoldable pub begun-weightings : Option Component → List Weighting
+begun-weightings none = []
+begun-weightings (some c) = c .weightings
 
--- what the table makes sure of: pairs are due after C; none is due, and there is a weighting, after W and M
+-- what the table makes sure of: pairs are due after C; none is due, and there is a weighting, after W, M and L
 pub record Sound-state (s : State) : Type 0 where
   pub row-low : 5 ≤ s .last
-  pub row-high : s .last ≤ 9
+  pub row-high : s .last ≤ 10
   pub after-C : s .last ≡ 6 → 1 ≤ s .due
   pub none-due : 8 ≤ s .last → s .due ≡ 0
   pub has-one : 8 ≤ s .last → s .weighted ≡ true
@@ -57,18 +57,20 @@ pub record Mirrors (s : State) (x : Certificate-reading) : Type 0 where
   pub number-is : s .number ≡ length (components-of x)
   pub due-is : s .due ≡ x .due
   pub weighted-is : s .weighted ≡ has-weighting (x .begun)
+  pub more-is : s .more ≡ x .more
+  pub weightings-are : s .begun ≡ length (begun-weightings (x .begun))
   pub pair-key-tells : Tells (λ q. q .at-rule) (λ q. q .place) (begun-pairs (x .begun)) (s .«pair_key»)
-  pub weight-key-tells : Tells (λ w. w .symbol) (λ w. w .place) (begun-weighting (x .begun) .weights) (s .«weight_key»)
-  pub marked-key-tells : Tells (λ w. w .symbol) (λ w. w .place) (begun-weighting (x .begun) .marked) (s .«marked_key»)
+  pub weight-key-tells : Tells (λ w. w .symbol) (λ w. w .place) (last-weighting (begun-weightings (x .begun)) .weights) (s .«weight_key»)
+  pub marked-key-tells : Tells (λ w. w .symbol) (λ w. w .place) (last-weighting (begun-weightings (x .begun)) .marked) (s .«marked_key»)
 
 -- what one step answers
 unfoldable pub Steps-as : Outcome Certificate-reading → Stepped → Type 0
 Steps-as (refused n) r = (y : Refusal) × (r ≡ Stopped y) × (number-of y ≡ n)
 Steps-as (passed x) r = (s : State) × (r ≡ On s) × Mirrors s x
 
--- the next state is sound, and has at most one component more
+-- the next state is sound, and has at most one component and one weighting more
 unfoldable pub Goes-on : State → Stepped → Type 0
-Goes-on s r = (u : State) → r ≡ On u → Sound-state u × (u .number ≤ s .number + 1)
+Goes-on s r = (u : State) → r ≡ On u → Sound-state u × (u .number ≤ s .number + 1) × (u .begun ≤ s .begun + 1)
 
 -- what `read_components` answers: the refusal, or how many components there are
 unfoldable pub Certificate-read : Outcome (List Component) → Answer → Type 0
@@ -112,11 +114,17 @@ pub record Marked-asked (s : State) (symbols : ℕ) (arities flags : List ℕ) :
   pub place : Marked-place-asked symbols arities flags
   pub weighted : s .weighted ≡ true
 
+-- so is an L record, where one weighting more can be counted
+pub record Weighting-asked (s : State) : Type 0 where
+  pub weighted : s .weighted ≡ true
+  pub begun-small : s .begun < 65536
+
 -- a record that the table lets stand is to be read
 pub record Step-asked (r : Record) (s : State) (symbols rules : ℕ) (arities starts nodes flags : List ℕ) : Type 0 where
   pub symbols-few : symbols ≤ most-symbols
   pub arrays : Kept-pack rules arities starts nodes flags
   pub number-small : s .number < 65536
+  pub begun-small : s .begun < 65536
   pub sound : Sound-state s
   pub follows : may-follow (s .last) (index (r .kind)) (s .due) (s .weighted) ≡ true
 

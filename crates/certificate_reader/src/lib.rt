@@ -11,13 +11,16 @@ ghost use Rattle.pack_reader.specs.Stored.{Stored};
 ghost use Rattle.certificates.specs.CertificateReading.{components-from};
 ghost use Rattle.certificate_reader.specs.Working.{Certificate-read, Reading-asked};
 
-// What has been read: the last record's row of the table, the components begun, the pairs still due of the last one,
-// whether it has a weighting, and the keys of its last P, W and M records (0 for none).
+// What has been read: the last record's row of the table and the components begun. Of the last component: the pairs still
+// due, whether it has a weighting, the weightings still to begin and those begun (the next L's number), the key of its last P
+// record and those of its last weighting's last W and M records (0 for none).
 pub struct State {
     pub last: usize,
     pub number: usize,
     pub due: usize,
     pub weighted: bool,
+    pub more: usize,
+    pub begun: usize,
     pub pair_key: u64,
     pub weight_key: u64,
     pub marked_key: u64,
@@ -48,6 +51,8 @@ pub fn read_components(
         number: 0,
         due: 0,
         weighted: false,
+        more: 0,
+        begun: 0,
         pair_key: 0,
         weight_key: 0,
         marked_key: 0,
@@ -68,8 +73,11 @@ pub fn read_components(
             }
         }
     }
-    if records::order::may_follow(s.last, records::order::CERTIFICATE_END, s.due, s.weighted) {
-        return Answer::Passed(s.number);
+    if !records::order::may_follow(s.last, records::order::CERTIFICATE_END, s.due, s.weighted) {
+        return Answer::Refused(Refusal::StrayRecord);
     }
-    Answer::Refused(Refusal::StrayRecord)
+    if s.more != 0 {
+        return Answer::Refused(Refusal::StrayRecord);
+    }
+    Answer::Passed(s.number)
 }

@@ -10,21 +10,21 @@ ghost use mathlib.Core.Path.{_≡_};
 ghost use mathlib.Core.Bool.{_&&_};
 ghost use mathlib.Core.List.{List};
 ghost use mathlib.Core.Option.{some};
-ghost use Prim.Native.Nat.{ℕ, _<_};
+ghost use Prim.Native.Nat.{ℕ, _≤_, _<_};
 ghost use lib.Dec.{ltb, leb};
-ghost use lib.ListN.{getD};
+ghost use lib.ListN.{length, getD};
 ghost use Rattle.rewriting.specs.Terms.{System};
-ghost use Rattle.records.specs.Order.{C-component, P-pair, W-weight, M-marked};
+ghost use Rattle.records.specs.Order.{C-component, P-pair, W-weight, M-marked, L-weighting};
 ghost use Rattle.pack_reader.specs.Stored.{Stored};
 ghost use Rattle.pair_finder.specs.Walking.{is-defined};
-ghost use Rattle.certificates.specs.Components.{Component};
-ghost use Rattle.certificates.specs.CertificateReading.{Certificate-reading, cert-step, component-read, pair-read, weight-read, marked-read};
-ghost use Rattle.certificate_reader.specs.Working.{Mirrors, Steps-as, Key-is, Stepped-as, Pair-asked, Place-asked, Marked-place-asked, Weight-asked, Marked-asked, Step-asked};
+ghost use Rattle.certificates.specs.Components.{Component, first-weighting};
+ghost use Rattle.certificates.specs.CertificateReading.{Certificate-reading, cert-step, component-read, pair-read, weight-read, marked-read, weighting-read};
+ghost use Rattle.certificate_reader.specs.Working.{Mirrors, Steps-as, Key-is, Stepped-as, Pair-asked, Place-asked, Marked-place-asked, Weight-asked, Marked-asked, Weighting-asked, Step-asked};
 
-// Document 01's limits on a component's pairs and weightings, as wide as the fields that hold them.
+// The limits of documents 01 and 02 on a component's pairs and weightings, as wide as the fields that hold them.
 const MOST_PAIRS: u16 = records::MOST_PAIRS as u16;
 
-const MOST_WEIGHTINGS: u16 = 1;
+const MOST_WEIGHTINGS: u16 = 8;
 
 // Two numbers as one that rises with them.
 fn key(a: u16, b: u16) -> u64
@@ -33,11 +33,24 @@ fn key(a: u16, b: u16) -> u64
     65536 * (a as u64) + (b as u64) + 1
 }
 
+// How many of a component's weightings C itself begins: the first, if there is one.
+fn first(weightings: u16) -> u16
+    ensures { λ n. ⌜ (n ≡ length (first-weighting weightings)) × (n ≤ weightings) ⌝ }
+{
+    if weightings == 0 {
+        return 0;
+    }
+    1
+}
+
 // C: its number, weightings and pairs.
 fn component(r: Record, s: State) -> Stepped
     requires { ⌜ s .number < 65536 ⌝ }
     ensures { λ t. ⌜ Stepped-as s t ((x : Certificate-reading) → Mirrors s x → r .kind ≡ C-component → Steps-as (component-read r x) t) ⌝ }
 {
+    if s.more != 0 {
+        return Stepped::Refused(Refusal::StrayRecord);
+    }
     if r.one != 0 {
         return Stepped::Refused(Refusal::StrayRecord);
     }
@@ -58,11 +71,14 @@ fn component(r: Record, s: State) -> Stepped
     if MOST_PAIRS < r.c {
         return Stepped::Refused(Refusal::OutOfRange);
     }
+    let begun = first(r.b);
     Stepped::On(State {
         last: records::order::COMPONENT,
         number: s.number + 1,
         due: r.c as usize,
-        weighted: r.b == 1,
+        weighted: r.b != 0,
+        more: (r.b - begun) as usize,
+        begun: begun as usize,
         pair_key: 0,
         weight_key: 0,
         marked_key: 0,
@@ -91,6 +107,8 @@ fn pair(r: Record, s: State, rules: usize, starts: &[u16], nodes: &[u8], defined
             number: s.number,
             due: s.due - 1,
             weighted: s.weighted,
+            more: s.more,
+            begun: s.begun,
             pair_key: k,
             weight_key: s.weight_key,
             marked_key: s.marked_key,
@@ -141,6 +159,8 @@ fn weight(r: Record, s: State, symbols: usize, arities: &[u8]) -> Stepped
         number: s.number,
         due: 0,
         weighted: s.weighted,
+        more: s.more,
+        begun: s.begun,
         pair_key: s.pair_key,
         weight_key: k,
         marked_key: s.marked_key,
@@ -167,9 +187,44 @@ fn marked(r: Record, s: State, symbols: usize, arities: &[u8], defined: &[u8]) -
         number: s.number,
         due: 0,
         weighted: s.weighted,
+        more: s.more,
+        begun: s.begun,
         pair_key: s.pair_key,
         weight_key: s.weight_key,
         marked_key: k,
+    })
+}
+
+// L: the number of the weighting that it begins.
+fn weighting(r: Record, s: State) -> Stepped
+    requires { ⌜ Weighting-asked s ⌝ }
+    ensures { λ t. ⌜ Stepped-as s t ((x : Certificate-reading) (c : Component) → Mirrors s x → x .begun ≡ some c → s .due ≡ 0 → r .kind ≡ L-weighting → Steps-as (weighting-read r x c) t) ⌝ }
+{
+    if r.one != 0 {
+        return Stepped::Refused(Refusal::StrayRecord);
+    }
+    if r.a as usize != s.begun {
+        return Stepped::Refused(Refusal::StrayRecord);
+    }
+    if r.b != 0 {
+        return Stepped::Refused(Refusal::StrayRecord);
+    }
+    if r.c != 0 {
+        return Stepped::Refused(Refusal::StrayRecord);
+    }
+    if s.more == 0 {
+        return Stepped::Refused(Refusal::StrayRecord);
+    }
+    Stepped::On(State {
+        last: records::order::WEIGHTING,
+        number: s.number,
+        due: 0,
+        weighted: s.weighted,
+        more: s.more - 1,
+        begun: s.begun + 1,
+        pair_key: s.pair_key,
+        weight_key: 0, // a weighting's W and M records rise anew
+        marked_key: 0,
     })
 }
 
@@ -193,8 +248,13 @@ pub fn step(
     if r.kind == b'P' {
         return pair(r, s, rules, starts, nodes, defined);
     }
-    if r.kind == b'W' {
+    // W is the only kind above P; tested so, the kinds are compared one by one and need no jump through a table.
+    if b'P' < r.kind {
         return weight(r, s, symbols, arities);
     }
-    marked(r, s, symbols, arities, defined)
+    if r.kind == b'M' {
+        return marked(r, s, symbols, arities, defined);
+    }
+    // The table lets no other kind stand.
+    weighting(r, s)
 }

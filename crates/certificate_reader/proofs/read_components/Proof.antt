@@ -1,11 +1,12 @@
--- `certificate_reader::read_components` meets its contract. The loop's invariant: the state is sound, and for each system that
--- the arrays hold it tells what the first i records are.
+-- `certificate_reader::read_components` meets its contract. The loop's invariant: the state is sound, counts no more than the
+-- records read, and for each system that the arrays hold it tells what the first i records are.
 use mathlib.Core.Path.{_≡_, sym, ap, _∙_, subst}
 use mathlib.Core.Bool.{true}
 use mathlib.Core.List.{List, _∷_}
 use Prim.Native.Nat.{ℕ, suc, _*_, _/_, _-_, _≤_, _<_}
 use native.Mathlib.Omega.{arith}
 use borrow.Author.Needs.{needs}
+use borrow.Author.Tests.{not-true, not-false}
 use lib.ListN.{length, drop}
 use Rattle.rewriting.specs.Terms.{System}
 use Rattle.records.specs.declared.Record.{Record}
@@ -24,13 +25,13 @@ use Rattle.certificates.specs.CertificateReading.{cert-step}
 use Rattle.certificate_reader.specs.Working.{Sound-state, Steps-as, Goes-on}
 use Rattle.certificate_reader.proofs.Mirrored.{start-sound}
 use Rattle.certificate_reader.proofs.Turns.{Told, told-nothing, told-refusal, told-next}
-use Rattle.certificate_reader.proofs.Ends.{ends-refused, ends-stray, ends-early, ends-read}
+use Rattle.certificate_reader.proofs.Ends.{ends-refused, ends-stray, ends-early, ends-missing, ends-read}
 use Rattle.certificate_reader.proofs.read_components.Statement.{statement}
 use Rattle.certificate_reader.proofs.read_components.Tie as tie
 
 abbrev Inv-loop : tie.InvT-loop
 Inv-loop certificate symbols rules arities starts nodes flags n s₀ i₀ s i =
-    (i ≤ n) × Sound-state s × (s .number ≤ i) × ((p : System) → Stored p symbols rules arities starts nodes flags → Told p (all-records certificate) i s)
+    (i ≤ n) × Sound-state s × (s .number ≤ i) × (s .begun ≤ i) × ((p : System) → Stored p symbols rules arities starts nodes flags → Told p (all-records certificate) i s)
 
 abbrev μ-loop : tie.MeasureT-loop
 μ-loop certificate symbols rules arities starts nodes flags n s₀ i₀ s i = n - i
@@ -40,7 +41,7 @@ stray c =
     let turn = c .before .before .before in
     let l = turn .before .loop in
     λ p stored.
-    ends-stray p _ (l .i) (l .s) (l .inv .3 p stored) (turn .loop-test .taken)
+    ends-stray p _ (l .i) (l .s) (l .inv .4 p stored) (turn .loop-test .taken)
     (stray-at _ (8 * l .i) (l .s .last) (l .s .due) (l .s .weighted) (sym (c .before .before .read-wanted .ensures) ∙ c .enum-told .given .1))
 
 -- a record r that may stand was read
@@ -64,6 +65,7 @@ step-asked c κs =
       symbols-few = asked .symbols-few;
       arrays = asked .arrays;
       number-small = omega (arith, l .inv .0, l .inv .2, asked .file .short);
+      begun-small = omega (arith, l .inv .0, l .inv .3, asked .file .short);
       sound = l .inv .1;
       follows = stands _ (l .i) (l .s) (c .before .r .given .0 .0) (sym (c .before .before .before .read-wanted .ensures) ∙ c .before .r .given .1);
     }
@@ -89,7 +91,7 @@ module _ (c : tie.After-step Inv-loop μ-loop) where
   Holds p = Stored p (start .args .symbols) (start .args .rules) (start .args .arities .now) (start .args .starts .now) (start .args .nodes .now) (start .args .defined .now)
 
   told : (p : System) → Holds p → Told p all i s
-  told p stored = c .before .before .before .before .before .before .loop .inv .3 p stored
+  told p stored = c .before .before .before .before .before .before .loop .inv .4 p stored
 
   this : drop i all ≡ r ∷ drop (suc i) all
   this =
@@ -118,22 +120,37 @@ again c =
       omega (arith, turn .loop-test .taken),
       sound .0,
       omega (arith, sound .1, turn .before .loop .inv .2),
+      omega (arith, sound .2, turn .before .loop .inv .3),
       λ p stored. told-next p (all done) (i done) (s done) (told done p stored) (r done) (this done) next (answered done p stored (On next) (led .t .given .1)),
     )
 
-read : tie.Need-returns-3 Inv-loop μ-loop
-unfolding column-at
-read c =
-    let l = c .before .before .before .loop in
-    λ p stored.
-    ends-read p _ (l .i) (l .s) (l .inv .3 p stored) (c .before .before .loop-test .left) (sym (c .before .may-follow .ensures) ∙ c .if1 .taken)
-
-early : tie.Need-returns-4 Inv-loop μ-loop
+early : tie.Need-returns-3 Inv-loop μ-loop
 unfolding column-at
 early c =
     let l = c .before .before .before .loop in
     λ p stored.
-    ends-early p _ (l .i) (l .s) (l .inv .3 p stored) (c .before .before .loop-test .left) (sym (c .before .may-follow .ensures) ∙ c .if1 .left)
+    ends-early p _ (l .i) (l .s) (l .inv .4 p stored) (c .before .before .loop-test .left)
+    (sym (c .before .may-follow .ensures) ∙ not-true (c .before .may-follow .result) (c .if1 .taken))
+
+-- the table lets the file end
+may-end : (c : tie.Else1 Inv-loop μ-loop) → c .before .may-follow .result ≡ true
+may-end c = not-false (c .before .may-follow .result) (c .if1 .left)
+
+missing : tie.Need-returns-4 Inv-loop μ-loop
+unfolding column-at
+missing c =
+    let e = c .before .before in
+    let l = e .before .before .before .loop in
+    λ p stored.
+    ends-missing p _ (l .i) (l .s) (l .inv .4 p stored) (e .before .before .loop-test .left) (sym (e .before .may-follow .ensures) ∙ may-end e) (c .if2 .taken)
+
+read : tie.Need-returns-5 Inv-loop μ-loop
+unfolding column-at
+read c =
+    let e = c .before .before in
+    let l = e .before .before .before .loop in
+    λ p stored.
+    ends-read p _ (l .i) (l .s) (l .inv .4 p stored) (e .before .before .loop-test .left) (sym (e .before .may-follow .ensures) ∙ may-end e) (c .if2 .left)
 
 pub read-components-spec : {M : Type 1} → statement M
 read-components-spec =
@@ -141,7 +158,7 @@ read-components-spec =
     (tie.spec
     Inv-loop
     μ-loop
-    (λ c. (omega arith, start-sound, omega arith, λ p stored. told-nothing p _))
+    (λ c. (omega arith, start-sound, omega arith, omega arith, λ p stored. told-nothing p _))
     (λ c. omega arith)
     (λ c κs. omega arith)
     (λ c. search needs)
@@ -155,5 +172,6 @@ read-components-spec =
     (λ c. omega arith)
     again
     (λ c κs. omega arith)
-    read
-    early)
+    early
+    missing
+    read)

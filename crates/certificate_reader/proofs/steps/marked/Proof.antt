@@ -87,7 +87,7 @@ a-marked-weight c =
     let k = keyed place in
     let has = start place .pre .weighted in
     record {
-      on = after-weight _ _ (omega arith) (omega arith) refl has refl;
+      on = after-weight _ _ (omega arith) (omega arith) refl has refl (omega arith);
       means = λ p rules starts nodes x d stored m is due kind.
           let one = place-told place p rules starts nodes stored ∙ not-false (place .is-marked-place .result) (c .if3 .left) in
           rw (zero-one k, key-told k x d is m, lt-ltb _ _ (place .before .if2 .left), one, kind)

@@ -104,7 +104,7 @@ a-pair-found c =
     let rising = place .before .before .before in
     let k = rising .before .before in
     record {
-      on = after-pair _ _ refl refl;
+      on = after-pair _ _ refl refl refl;
       means = λ p symbols arities x d stored m is kind.
           let one : is-pair p (a-pair (r k .a) (r k .b)) ≡ true = named _ _ _ (place .place-of .ensures p symbols arities stored) _ (c .before .enum-told .given .1) in
           rw (zeros k, key-told k x d is m, lt-ltb _ _ (rising .if3 .left), one, kind)
