@@ -6,6 +6,7 @@ pub mod Small
 pub mod Compared
 pub mod Lists
 pub mod Judged
+pub mod Leaving
 pub mod Substitution
 pub mod Steps
 pub mod Falls

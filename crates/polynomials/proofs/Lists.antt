@@ -1,6 +1,6 @@
 -- The tests of lists by which the judging goes: `any`, and `without` with `is-none`, by places and by membership.
 use mathlib.Core.Path.{_≡_, refl}
-use mathlib.Core.Bool.{Bool, true, false, cond, false≢true}
+use mathlib.Core.Bool.{Bool, true, false, _||_, or-true, cond, false≢true}
 use mathlib.Core.Logic.{_↔_}
 use mathlib.Core.List.{List, [], _∷_, List·Memᴰ, List·Memᴰ·head, List·Memᴰ·tail}
 use Prim.Native.Nat.{ℕ, zero, suc, _<_}
@@ -8,6 +8,12 @@ use native.Mathlib.Omega.{arith}
 use lib.ListN.{length, getD}
 use Rattle.rewriting.proofs.Basics.{ors, or-both-false}
 use Rattle.polynomials.specs.Judging.{any, without, is-none}
+
+-- a list of which the test says so is empty
+pub none-is : {A : Type 0} (xs : List A) → is-none xs ≡ true → xs ≡ []
+unfolding is-none
+none-is [] h = refl
+none-is (x ∷ xs) h = absurd (false≢true h)
 
 none-left : {A : Type 0} (b : Bool) (x : A) (xs : List A) → is-none (cond b xs (x ∷ xs)) ≡ true → (b ≡ true) × (is-none xs ≡ true)
 unfolding is-none
@@ -37,7 +43,33 @@ module _ {A : Type 0} (test : A → Bool) (d : A) where
   all-leave-by [] h = refl
   all-leave-by (x ∷ xs) h = rw (h 0 (omega arith)) (all-leave-by xs (λ i k. h (suc i) (omega arith)))
 
+  abbrev There : List A → Type 0
+  There ys = (i : ℕ) × (i < length ys) × (test (getD ys i d) ≡ true)
+
+  any-true-at : (xs : List A) → any test xs ≡ true → There xs
+  unfolding any
+  any-true-at [] h = absurd (false≢true h)
+  any-true-at (x ∷ xs) h = go (λ k. any-true-at xs k) (test x) refl h
+    where
+      go : (any test xs ≡ true → There xs) → (b : Bool) → test x ≡ b → b || any test xs ≡ true → There (x ∷ xs)
+      go rest true e k = (0, omega arith, e)
+      go rest false e k = let there = rest k in (suc (there .0), omega (arith, there .1), there .2)
+
+  any-true-by : (xs : List A) (i : ℕ) → i < length xs → test (getD xs i d) ≡ true → any test xs ≡ true
+  unfolding any
+  any-true-by [] i k h = absurd (omega arith)
+  any-true-by (x ∷ xs) zero k h = rw h
+  any-true-by (x ∷ xs) (suc i) k h = rw (any-true-by xs i (omega arith) h) (or-true (test x))
+
   module _ (xs : List A) {P : ℕ → Type 0} where
+    -- some element passes a test whose passing means P
+    pub some-pass :
+        ((i : ℕ) → i < length xs → (test (getD xs i d) ≡ true) ↔ P i) → (any test xs ≡ true) ↔ ((i : ℕ) × (i < length xs) × P i)
+    some-pass means = (
+      λ h. let there = any-true-at xs h in (there .0, there .1, means _ (there .1) .0 (there .2)),
+      λ h. any-true-by xs (h .0) (h .1) (means _ (h .1) .1 (h .2)),
+    )
+
     -- no element passes a test whose failing means P
     pub none-pass : ((i : ℕ) → i < length xs → (test (getD xs i d) ≡ false) ↔ P i) → (any test xs ≡ false) ↔ ((i : ℕ) → i < length xs → P i)
     none-pass means = (λ h i k. means i k .0 (any-false-at xs h i k), λ h. any-false-by xs (λ i k. means i k .1 (h i k)))

@@ -76,7 +76,7 @@ module _ (p : System) (m : Strategy) (good : Good p) (rs : List Rule) where
       {ws : List Weighting} {cs : List Call} → Weighed rs ws cs → (x : Link) → Valid p m x → List·Memᴰ (call p (x .pair)) cs →
       SN (Next-among p m rs cs) x
   component-terminates all-left x v i = absurd (List·Memᴰ·not-nil i)
-  component-terminates (one-more w ws cs over-rules over-calls rules calls others) x v i =
+  component-terminates (one-more w ws cs over-rules over-calls rules calls leaves others) x v i =
       descent (descending w cs rules calls)
       (λ y c e. component-terminates others y (c .0) (without-keeps (call-falls w) (c .1) e))
       x (v, i)

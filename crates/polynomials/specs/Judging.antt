@@ -1,8 +1,8 @@
--- Judging rules and pairs by a list of linear interpretations: 11, 12 and 13.
+-- Judging rules and pairs by a list of linear interpretations: 11, 12, 13 and 17.
 use mathlib.Core.Path.{_≡_}
-use mathlib.Core.Bool.{Bool, true, false, _||_, not, cond}
+use mathlib.Core.Bool.{Bool, true, false, _&&_, _||_, not, cond}
 use mathlib.Core.List.{List, [], _∷_}
-use Prim.Native.Nat.{ℕ, _≤_, _<_}
+use Prim.Native.Nat.{ℕ, suc, _≤_, _<_}
 use lib.ListN.{length, getD}
 use Rattle.rewriting.specs.Terms.{Tree, nil, Rule, no-rule}
 use Rattle.polynomials.specs.Polynomials.{Weighting, polynomial-of, marked-polynomial, at-least, greater}
@@ -46,21 +46,32 @@ call-rises w c = not (at-least (marked-polynomial w (c .left)) (marked-polynomia
 unfoldable pub call-falls : Weighting → Call → Bool
 call-falls w c = greater (marked-polynomial w (c .left)) (marked-polynomial w (c .right))
 
--- Weighting by weighting, 11, 12, then 13; the calls that fall leave, and 13 if one remains after the last. With one
--- weighting, as the base has it, 13 is given exactly if some call does not fall.
+-- a call does not fall, and no weighting comes after this one
+unfoldable pub one-remains : Weighting → (after : List Weighting) → List Call → Bool
+one-remains w ws cs = is-none ws && not (is-none (without (call-falls w) cs))
+
+-- Weighting by weighting over the calls still present: 11, 12, then 13 for a call that rises or that remains after the last, then
+-- 17 where no call leaves. The calls that fall leave. No weighting at all refuses nothing: it comes after the last.
 unfoldable pub weightings-refusal : (rules : List Rule) → List Weighting → (present : List Call) → ℕ
-weightings-refusal rs [] cs = cond (is-none cs) 0 13
+weightings-refusal rs [] cs = 0
 weightings-refusal rs (w ∷ ws) cs =
     cond (any (rule-over w) rs || any (call-over w) cs) 11
     (cond (any (rule-rises w) rs) 12
-    (cond (any (call-rises w) cs) 13 (weightings-refusal rs ws (without (call-falls w) cs))))
+    (cond (any (call-rises w) cs || one-remains w ws cs) 13
+    (cond (any (call-falls w) cs) (weightings-refusal rs ws (without (call-falls w) cs)) 17)))
 
--- for the proofs, the same without numbers: every call leaves under one of the weightings
+-- the number of the weighting under which a call leaves, counted from 0: the first under which it falls
+unfoldable pub left-under : List Weighting → Call → ℕ
+left-under [] c = 0
+left-under (w ∷ ws) c = cond (call-falls w c) 0 (suc (left-under ws c))
+
+-- for the proofs, the same without numbers: every call leaves under one of the weightings, and one under each
 pub data Weighed (rs : List Rule) : List Weighting → List Call → Type 0 where
   all-left : Weighed rs [] []
   one-more :
       (w : Weighting) (ws : List Weighting) (cs : List Call) → any (rule-over w) rs ≡ false → any (call-over w) cs ≡ false →
-      any (rule-rises w) rs ≡ false → any (call-rises w) cs ≡ false → Weighed rs ws (without (call-falls w) cs) → Weighed rs (w ∷ ws) cs
+      any (rule-rises w) rs ≡ false → any (call-rises w) cs ≡ false → any (call-falls w) cs ≡ true →
+      Weighed rs ws (without (call-falls w) cs) → Weighed rs (w ∷ ws) cs
 
 -- WHAT IT MEANS for rules, in values over all naturals; Shown has the same of pairs
 -- every node is within the limit
