@@ -1,6 +1,7 @@
 -- The check stage by stage: lengths, the pack, the certificate, the judgement; and each refusal comes from one stage.
 use mathlib.Core.Path.{_≡_, refl, sym, ap, _∙_}
 use mathlib.Core.Bool.{Bool, true, false, _||_}
+use mathlib.Core.Logic.{_⊎_, inl, inr}
 use mathlib.Core.List.{List}
 use Prim.Native.Nat.{ℕ, _≤_}
 use native.Mathlib.Omega.{arith}
@@ -21,7 +22,7 @@ use Rattle.certificates.proofs.Refusals as certificate-refusals
 use Rattle.judging.specs.Judges.{plain}
 use Rattle.judging.specs.Judge.{judged}
 use Rattle.judging.specs.Check.{check, check-pack, check-read}
-use Rattle.judging.proofs.Shows.{judged-range, judged-not-read}
+use Rattle.judging.proofs.Shows.{Judged-number, judged-number, judged-not-read}
 
 -- LENGTHS: a file that was read has a good one
 pub pack-long : (bs : List ℕ) (p : System) → read-pack bs ≡ passed p → length-bad packs.most-pack-bytes bs ≡ false
@@ -98,15 +99,20 @@ module _ (bs ds : List ℕ) where
       (pack-stage (or-right-false (length-bad packs.most-pack-bytes bs) _ h) (read-pack bs) refl
       (pack-refusals.length-first bs (or-left-false _ (length-bad certificates.most-certificate-bytes ds) h))))
 
-  -- so it is at most 13
-  pub check-range : check bs ds ≤ 13
+  -- so it is at most 13, or 17
+  pub check-range : (check bs ds ≤ 13) ⊎ (check bs ds ≡ 17)
   check-range = within (check bs ds) staged
     where
-      within : (n : ℕ) → Staged n → n ≤ 13
-      within _ (was-cut h) = omega arith
-      within _ (pack-refused n a b e) = omega (arith, leb-true n 6 b)
-      within _ (certificate-refused p n a e f b) = omega (arith, leb-true n 7 b)
-      within _ (was-judged p cs e f) = judged-range p (plain p) cs
+      of-judging : {n : ℕ} → Judged-number n → (n ≤ 13) ⊎ (n ≡ 17)
+      of-judging (inl h) = inl (omega arith)
+      of-judging (inr (inl h)) = inl (h .1)
+      of-judging (inr (inr h)) = inr h
+
+      within : (n : ℕ) → Staged n → (n ≤ 13) ⊎ (n ≡ 17)
+      within _ (was-cut h) = inl (omega arith)
+      within _ (pack-refused n a b e) = inl (omega (arith, leb-true n 6 b))
+      within _ (certificate-refused p n a e f b) = inl (omega (arith, leb-true n 7 b))
+      within _ (was-judged p cs e f) = of-judging (judged-number p (plain p) cs)
 
   -- 1 is the lengths'
   pub cut-exactly : check bs ds ≡ 1 → cut ≡ true

@@ -1,15 +1,15 @@
--- 10 to 13 exactly, by any judge: a component's number says which of document 01's demands it fails first, and the
+-- 10 to 13 and 17 exactly, by any judge: a component's number says which of the documents' demands it fails first, and the
 -- components' number which component is the first to fail.
 use mathlib.Core.Path.{_≡_, refl, sym, _∙_}
 use mathlib.Core.Bool.{true, cond, or-false}
 use mathlib.Core.Logic.{_↔_, _⊎_, inl, inr, ⊎-elim}
-use mathlib.Core.List.{List, [], _∷_, map}
+use mathlib.Core.List.{List, [], _∷_, cons-ne-nil}
 use Prim.Native.Nat.{ℕ, zero, suc, _≤_, _<_}
 use native.Mathlib.Omega.{arith}
 use lib.Dec.{eqb}
-use lib.ListN.{length, getD, length-map}
+use lib.ListN.{length, getD}
 use borrow.Author.Tests.{eqb-true, eqb-false, ne-eqb}
-use Rattle.rewriting.specs.Terms.{System, Rule}
+use Rattle.rewriting.specs.Terms.{System}
 use Rattle.rewriting.specs.Pairs.{Pair, is-pair}
 use Rattle.rewriting.specs.Systems.{Good}
 use Rattle.rewriting.proofs.Basics.{by-test, not-both, cond-true, cond-false, cond-first, cond-second, cond-cases}
@@ -17,21 +17,19 @@ use Rattle.rewriting.proofs.Basics.{Each, each-nil, each-cons, each-by, each-at
 use Rattle.pairs.specs.Listing.{a-pair}
 use Rattle.pairs.proofs.Listed.{either}
 use Rattle.polynomials.specs.Polynomials.{Weighting}
-use Rattle.polynomials.specs.Values.{Valuation, marked-value}
-use Rattle.polynomials.specs.Limit.{Side-within}
-use Rattle.polynomials.specs.Judging.{Call, no-call, any, Rules-within, Rules-kept}
-use Rattle.polynomials.proofs.Small.{Small, Small-rule, good-small}
-use Rattle.polynomials.proofs.Judged.{Judging-number, judging-numbers, Exactly, Calls-within, Calls-fall, one-weighting}
+use Rattle.polynomials.specs.Judging.{any}
+use Rattle.polynomials.proofs.Small.{Small-rule}
+use Rattle.polynomials.proofs.Judged.{Judging-number, judging-numbers}
 use Rattle.certificates.specs.Components.{Component, no-component}
 use Rattle.certificates.specs.Encoding.{Good-certificate}
 use Rattle.judging.specs.Judges.{Judge}
-use Rattle.judging.specs.Judge.{arcs-among, call, calls, weighed-refusal, component-refusal, components-refusal}
-use Rattle.judging.specs.Shown.{nth-pair, nth, No-self-arc, All-within, Pairs-fall, Under, Component-shows, First-failure}
-use Rattle.judging.specs.Shown.{Fails, self-arc, over-limit, rule-rises, pair-stays}
+use Rattle.judging.specs.Judge.{arcs-among, calls, weighed-refusal, component-refusal, components-refusal}
+use Rattle.judging.specs.Shown.{nth-pair, nth, No-self-arc, Under, Component-shows, First-failure, Fails-under}
+use Rattle.judging.specs.Shown.{Fails, self-arc, weightings-fail as weightings-failed}
+use Rattle.judging.proofs.Weightings.{weightings-show, weightings-fail}
 
 -- what the judging asks of a component for its numbers to mean this; no more of what a good component is
 pub record Fit (p : System) (c : Component) : Type 0 where
-  pub few : length (c .weightings) ≤ 1
   pub alone : length (c .weightings) ≡ 0 → length (c .pairs) ≡ 1
   pub are-pairs : (k : ℕ) → k < length (c .pairs) → is-pair p (nth-pair c k) ≡ true
 
@@ -40,7 +38,7 @@ All-fit p cs = (i : ℕ) → i < length cs → Fit p (nth cs i)
 
 pub good-fit : (p : System) (cs : List Component) → Good-certificate p cs → All-fit p cs
 unfolding Good-certificate nth nth-pair
-good-fit p cs good i h = record { few = good i h .weightings-few; alone = good i h .alone; are-pairs = good i h .are-pairs }
+good-fit p cs good i h = record { alone = good i h .alone; are-pairs = good i h .are-pairs }
 
 -- what it asks of a judge: its rules are terms, and all their variables have a coefficient
 abbrev pub Small-rules : Judge → Type 0
@@ -54,119 +52,54 @@ only-arc j d [] h = absurd (omega arith)
 only-arc j d (q ∷ []) h = or-false _ ∙ or-false _
 only-arc j d (q ∷ r ∷ qs) h = absurd (omega arith)
 
-map-at : {A B : Type 0} (f : A → B) (xs : List A) (k : ℕ) (d : A) (e : B) → k < length xs → getD (map f xs) k e ≡ f (getD xs k d)
-map-at f [] k d e l = absurd (omega arith)
-map-at f (x ∷ xs) zero d e l = refl
-map-at f (x ∷ xs) (suc k) d e l = map-at f xs k d e (omega arith)
-
--- the demands on calls are those on the pairs that they stand for
-module _ (p : System) (w : Weighting) (qs : List Pair) where
-  calls-long : length (calls p qs) ≡ length qs
-  unfolding calls
-  calls-long = length-map qs (call p)
-
-  -- a demand on the call at a place, and on the pair there
-  at-call : (P : Call → Type 0) (k : ℕ) → k < length qs → P (getD (calls p qs) k no-call) ↔ P (call p (getD qs k (a-pair 0 0)))
-  unfolding calls
-  at-call P k l = let e = map-at (call p) qs k (a-pair 0 0) no-call l in (λ h. rw e at h, λ h. rw e h)
-
-  calls-within : (rs : List Rule) → (Rules-within rs w × Calls-within w (calls p qs)) ↔ All-within p rs w qs
-  unfolding All-within call
-  calls-within rs = (
-    λ h. (
-      h .0,
-      record {
-        lefts = λ k l. at-call (λ c. Side-within w (c .left)) k l .0 (h .1 k (rw calls-long l) .0);
-        rights = λ k l. at-call (λ c. Side-within w (c .right)) k l .0 (h .1 k (rw calls-long l) .1);
-      },
-    ),
-    λ h. (
-      h .0,
-      λ k l.
-          let l = rw calls-long at l in (
-            at-call (λ c. Side-within w (c .left)) k l .1 (h .1 .lefts k l),
-            at-call (λ c. Side-within w (c .right)) k l .1 (h .1 .rights k l),
-          ),
-    ),
-  )
-
-  abbrev Falls : Call → Type 0
-  Falls c = (a : Valuation) → marked-value w a (c .right) < marked-value w a (c .left)
-
-  calls-fall : Calls-fall w (calls p qs) ↔ Pairs-fall p w qs
-  unfolding Pairs-fall call
-  calls-fall = (
-    λ h k l. at-call Falls k l .0 (h k (rw calls-long l)),
-    λ h k l. let l = rw calls-long at l in at-call Falls k l .1 (h k l),
-  )
-
 module _ (p : System) (j : Judge) (good : Good p) (small-rules : Small-rules j) (c : Component) (fit : Fit p c) where
-  small : Small (j .rules c) (calls p (c .pairs))
-  unfolding call calls nth-pair
-  small = good-small p good (small-rules c) (c .pairs) (each-by (a-pair 0 0) (c .pairs) (fit .are-pairs))
-
-  -- with one weighting its number is that of the weights, without any the one arc decides
-  weighting-exactly : (w : Weighting) →
-      Exactly (weighed-refusal p j c (w ∷ [])) (All-within p (j .rules c) w (c .pairs)) (Rules-kept (j .rules c) w) (Pairs-fall p w (c .pairs))
-  unfolding weighed-refusal
-  weighting-exactly w =
-      one-weighting (j .rules c) w (calls p (c .pairs)) small (calls-within p w (c .pairs) (j .rules c)) (calls-fall p w (c .pairs))
+  are : Each (λ q. is-pair p q ≡ true) (c .pairs)
+  unfolding nth-pair
+  are = each-by (a-pair 0 0) (c .pairs) (fit .are-pairs)
 
   self-arc-number : length (c .pairs) ≡ 1 → weighed-refusal p j c [] ≡ cond (j .arcs (nth-pair c 0) (nth-pair c 0)) 10 0
   unfolding weighed-refusal nth-pair
   self-arc-number one = rw (only-arc j (a-pair 0 0) (c .pairs) one)
 
-  -- what a fit component's weightings are like
-  abbrev Few : List Weighting → Type 0
-  Few ws = (length ws ≤ 1) × (length ws ≡ 0 → length (c .pairs) ≡ 1)
+  -- without a weighting there is one pair
+  abbrev Alone : List Weighting → Type 0
+  Alone ws = length ws ≡ 0 → length (c .pairs) ≡ 1
 
-  under-shows : (ws : List Weighting) → Few ws → (weighed-refusal p j c ws ≡ 0) ↔ Under p j c ws
-  unfolding Under No-self-arc
-  under-shows [] few =
-      rw (self-arc-number (few .1 refl)) (λ h. cond-second _ 10 0 (λ e. omega arith) h .0, λ h. cond-false 10 0 h)
-  under-shows (w ∷ []) few =
-      let exactly = weighting-exactly w in (
-        λ h. let s = exactly .accepts .0 h in record { within = s .0; rules-kept = s .1; pairs-fall = s .2 },
-        λ s. exactly .accepts .1 (s .within, s .rules-kept, s .pairs-fall),
-      )
-  under-shows (w ∷ v ∷ ws) few = absurd (omega arith)
+  under-shows : (ws : List Weighting) → Alone ws → (weighed-refusal p j c ws ≡ 0) ↔ Under p j c ws
+  unfolding Under No-self-arc weighed-refusal
+  under-shows [] alone =
+      rw (self-arc-number (alone refl)) (λ h. cond-second _ 10 0 (λ e. omega arith) h .0, λ h. cond-false 10 0 h)
+  under-shows (w ∷ ws) alone = weightings-show p good (j .rules c) (small-rules c) (w ∷ ws) (c .pairs) are (λ e. absurd (cons-ne-nil w ws e))
 
-  weighting-fails : (w : Weighting) (n : ℕ) → 10 ≤ n → Judging-number n → weighed-refusal p j c (w ∷ []) ≡ n → Fails p j c n (w ∷ [])
-  weighting-fails w n b (inl z) h = absurd (omega arith)
-  weighting-fails w n b (inr (inl z)) h = rw z (over-limit w (weighting-exactly w .refuses-11 .0 (h ∙ z)))
-  weighting-fails w n b (inr (inr (inl z))) h =
-      let f = weighting-exactly w .refuses-12 .0 (h ∙ z) in rw z (rule-rises w (f .0) (f .1))
-  weighting-fails w n b (inr (inr (inr z))) h =
-      let f = weighting-exactly w .refuses-13 .0 (h ∙ z) in rw z (pair-stays w (f .0) (f .1) (f .2))
-
-  under-fails : (n : ℕ) → 10 ≤ n → (ws : List Weighting) → Few ws → weighed-refusal p j c ws ≡ n → Fails p j c n ws
-  unfolding No-self-arc weighed-refusal
-  under-fails n b [] few h =
-      let k = cond-first _ 10 0 (λ e. omega arith) (sym (self-arc-number (few .1 refl)) ∙ h) in
-      rw (← (k .1)) (self-arc (λ none. not-both _ (k .0) none))
-  under-fails n b (w ∷ []) few h = weighting-fails w n b (rw h at (judging-numbers (j .rules c) (w ∷ []) (calls p (c .pairs)))) h
-  under-fails n b (w ∷ v ∷ ws) few h = absurd (omega arith)
-
-  fails-under : {n : ℕ} {ws : List Weighting} → Few ws → Fails p j c n ws → weighed-refusal p j c ws ≡ n
+  arc-fails : {n : ℕ} → Alone [] → Fails p j c n [] → weighed-refusal p j c [] ≡ n
   unfolding No-self-arc
-  fails-under few (self-arc f) =
-      self-arc-number (few .1 refl) ∙ by-test (j .arcs (nth-pair c 0) (nth-pair c 0)) (cond-true 10 0) (λ none. absurd (f none))
-  fails-under few (over-limit w f) = weighting-exactly w .refuses-11 .1 f
-  fails-under few (rule-rises w a f) = weighting-exactly w .refuses-12 .1 (a, f)
-  fails-under few (pair-stays w a k f) = weighting-exactly w .refuses-13 .1 (a, k, f)
+  arc-fails alone (self-arc f) =
+      self-arc-number (alone refl) ∙ by-test (j .arcs (nth-pair c 0) (nth-pair c 0)) (cond-true 10 0) (λ none. absurd (f none))
 
-  few : Few (c .weightings)
-  few = (fit .few, fit .alone)
+  inside : {n : ℕ} {w : Weighting} {ws : List Weighting} → Fails p j c n (w ∷ ws) → Fails-under p (j .rules c) n (w ∷ ws) (c .pairs)
+  inside (weightings-failed n w ws f) = f
+
+  under-fails : (n : ℕ) → 10 ≤ n → (ws : List Weighting) → Alone ws → (weighed-refusal p j c ws ≡ n) ↔ Fails p j c n ws
+  unfolding No-self-arc weighed-refusal
+  under-fails n b [] alone = (
+    λ h.
+        let k = cond-first _ 10 0 (λ e. omega arith) (sym (self-arc-number (alone refl)) ∙ h) in
+        rw (← (k .1)) (self-arc (λ none. not-both _ (k .0) none)),
+    λ f. arc-fails alone f,
+  )
+  under-fails n b (w ∷ ws) alone =
+      let fail = weightings-fail p good (j .rules c) (small-rules c) n (λ e. omega arith) (w ∷ ws) (c .pairs) are in
+      (λ h. weightings-failed n w ws (fail .0 h), λ f. fail .1 (inside f))
 
   -- its number is 0 exactly if it shows what it must
   component-shows : (component-refusal p j c ≡ 0) ↔ Component-shows p j c
   unfolding component-refusal Component-shows
-  component-shows = under-shows (c .weightings) few
+  component-shows = under-shows (c .weightings) (fit .alone)
 
   -- else its number is that of its first failure
   component-fails : (n : ℕ) → 10 ≤ n → (component-refusal p j c ≡ n) ↔ Fails p j c n (c .weightings)
   unfolding component-refusal
-  component-fails n b = (under-fails n b (c .weightings) few, fails-under few)
+  component-fails n b = under-fails n b (c .weightings) (fit .alone)
 
 -- ALL COMPONENTS
 
@@ -255,18 +188,17 @@ module _ (p : System) (j : Judge) (good : Good p) (small-rules : Small-rules j) 
 
 -- THE NUMBERS that are given
 abbrev pub Component-number : ℕ → Type 0
-Component-number n = (n ≡ 0) ⊎ ((10 ≤ n) × (n ≤ 13))
+Component-number n = (n ≡ 0) ⊎ (((10 ≤ n) × (n ≤ 13)) ⊎ (n ≡ 17))
 
 weighted-number : {n : ℕ} → Judging-number n → Component-number n
 weighted-number (inl h) = inl h
-weighted-number (inr (inl h)) = inr (omega arith)
-weighted-number (inr (inr (inl h))) = inr (omega arith)
-weighted-number (inr (inr (inr h))) = inr (omega arith)
+weighted-number (inr (inl h)) = inr (inl (omega arith))
+weighted-number (inr (inr h)) = inr (inr h)
 
 module _ (p : System) (j : Judge) where
   component-number : (c : Component) (ws : List Weighting) → Component-number (weighed-refusal p j c ws)
   unfolding weighed-refusal
-  component-number c [] = either Component-number (arcs-among j (c .pairs) (c .pairs)) (inr (omega arith)) (inl refl)
+  component-number c [] = either Component-number (arcs-among j (c .pairs) (c .pairs)) (inr (inl (omega arith))) (inl refl)
   component-number c (w ∷ ws) = weighted-number (judging-numbers (j .rules c) (w ∷ ws) (calls p (c .pairs)))
 
   pub components-number : (cs : List Component) → Component-number (components-refusal p j cs)

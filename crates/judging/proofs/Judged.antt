@@ -4,26 +4,31 @@ use mathlib.Core.Path.{_≡_}
 use mathlib.Core.Bool.{true, false}
 use mathlib.Core.Logic.{_⊎_, inl, inr, ⊎-elim}
 use mathlib.Core.List.{List, [], _∷_, _++_, List·Memᴰ, List·Memᴰ·not-nil, List·Memᴰ·append-cases, Memᴰ·append-left, Memᴰ·append-right, Memᴰ·map}
+use Prim.Native.Nat.{ℕ, _<_}
 use native.Mathlib.Omega.{arith}
+use lib.ListN.{length}
 use Rattle.rewriting.specs.Terms.{System}
 use Rattle.rewriting.specs.Steps.{Strategy}
 use Rattle.rewriting.specs.Termination.{SN, sn}
 use Rattle.rewriting.specs.Pairs.{Pair, is-pair}
 use Rattle.rewriting.specs.Systems.{Good}
 use Rattle.rewriting.specs.Chains.{Link, Valid, Next, Terminating, Chains-terminating}
-use Rattle.rewriting.proofs.Basics.{not-both, or-left-false, or-right-false, cond-first, cond-second, Each, each-head, each-tail}
+use Rattle.rewriting.proofs.Basics.{not-both, or-left-false, or-right-false, cond-first, cond-second, Each, each-head, each-tail, each-at}
 use Rattle.rewriting.proofs.Relations.{sn-none, sn-by}
 use Rattle.rewriting.proofs.TermsTerminate.{chains-to-terms}
-use Rattle.pairs.specs.Listing.{pairs}
+use Rattle.pairs.specs.Listing.{a-pair, pairs}
 use Rattle.pairs.proofs.Listed.{counted-member}
 use Rattle.polynomials.specs.Polynomials.{Weighting}
+use Rattle.polynomials.specs.Judging.{left-under}
+use Rattle.polynomials.proofs.Lists.{mem-at}
 use Rattle.polynomials.proofs.Judged.{weighed}
+use Rattle.polynomials.proofs.Leaving.{in-time}
 use Rattle.polynomials.proofs.Falls.{Linked}
 use Rattle.polynomials.proofs.Weighed.{by-rules, component-terminates}
-use Rattle.certificates.specs.Components.{Component}
+use Rattle.certificates.specs.Components.{Component, no-component}
 use Rattle.judging.specs.Judges.{Judge}
 use Rattle.judging.specs.Judge.{all-pairs, each-once, arcs-among, back-arc, call, calls, weighed-refusal, component-refusal, judged}
-use Rattle.judging.specs.Shown.{Each-once}
+use Rattle.judging.specs.Shown.{nth, nth-pair, Each-once}
 use Rattle.judging.proofs.Once.{once-means}
 use Rattle.judging.proofs.Tests.{each-once-means, no-arc}
 use Rattle.judging.proofs.Components.{none-refused}
@@ -61,7 +66,7 @@ module _ (p : System) (m : Strategy) (j : Judge) (good : Good p) (sound : Sound 
       sn-none x (λ y n. no-next none a (n .1) (n .2))
   inside-ends c (w ∷ ws) h x a =
       sn-by (λ y z n. (n .1, sound .rules-enough c y z (n .0 .0) (n .0 .1) (n .1), Memᴰ·map (call p) (n .2)))
-      (component-terminates p m good (j .rules c) (weighed _ _ _ .0 h) x (a .0) (Memᴰ·map (call p) (a .1)))
+      (component-terminates p m good (j .rules c) (weighed _ _ _ _ .0 h) x (a .0) (Memᴰ·map (call p) (a .1)))
 
   -- so does one that leaves it only for where chains end
   leaving-ends : (c : Component) →
@@ -123,3 +128,19 @@ module _ (p : System) (m : Strategy) (j : Judge) (good : Good p) (sound : Sound 
           let arcs = cond-second (back-arc j [] cs) 9 _ (λ e. omega arith) (counted .1) in
           let once = each-once-means p cs .0 (counted .0) in
           components-end [] cs (λ q is. inr (stands cs once q is)) (arcs .0) (none-refused p j cs (arcs .1)) x (v, stands cs once (x .pair) (v .is))
+
+-- every pair of a component with weightings leaves under one of them
+module _ (p : System) (j : Judge) where
+  weighed-in-time : (c : Component) (ws : List Weighting) {q : Pair} → weighed-refusal p j c ws ≡ 0 → 0 < length ws → List·Memᴰ q (c .pairs) →
+      left-under ws (call p q) < length ws
+  unfolding weighed-refusal call calls
+  weighed-in-time c [] h some i = absurd (omega arith)
+  weighed-in-time c (w ∷ ws) h some i = in-time (weighed _ _ _ _ .0 h) (Memᴰ·map (call p) i)
+
+  pub all-in-time : (cs : List Component) → judged p j cs ≡ 0 → (i k : ℕ) → i < length cs → 0 < length (nth cs i .weightings) → k < length (nth cs i .pairs) →
+      left-under (nth cs i .weightings) (call p (nth-pair (nth cs i) k)) < length (nth cs i .weightings)
+  unfolding judged component-refusal nth nth-pair
+  all-in-time cs h i k l some m =
+      let counted = cond-first (each-once (pairs p) (all-pairs cs)) _ 8 (λ e. omega arith) h in
+      let arcs = cond-second (back-arc j [] cs) 9 _ (λ e. omega arith) (counted .1) in
+      weighed-in-time (nth cs i) (nth cs i .weightings) (each-at no-component (none-refused p j cs (arcs .1)) i l) some (mem-at (a-pair 0 0) (nth cs i .pairs) k m)

@@ -1,10 +1,12 @@
--- What the judging of 8 to 13 means, and that what it accepts terminates; in the order in which to read it.
+-- What the judging of 8 to 13 and 17 means, and that what it accepts terminates; in the order in which to read it.
 
 -- a pair that is counted once stands at one place
 pub mod Once
 -- the tests of 8 and 9
 pub mod Tests
--- 10 to 13: one component, and the first component that fails
+-- 11 to 13 and 17: the weightings of a component, one after the other
+pub mod Weightings
+-- 10 with them: one component, and the first component that fails
 pub mod Components
 -- every number of the judging, exactly
 pub mod Shows

@@ -1,4 +1,4 @@
--- The judging gives exactly the numbers of document 01, by any judge: 0 if the certificate shows all it must, else the number
+-- The judging gives exactly the numbers of documents 01 and 02, by any judge: 0 if the certificate shows all it must, else the number
 -- of the first demand that it fails.
 use mathlib.Core.Path.{_≡_, refl, sym}
 use mathlib.Core.Bool.{Bool, true, false, cond, true≢false, false≢true}
@@ -19,26 +19,24 @@ use Rattle.judging.proofs.Components.{All-fit, Small-rules, Component-n
 
 -- THE NUMBERS that are given
 
-abbrev Judged-number : ℕ → Type 0
-Judged-number n = (n ≡ 0) ⊎ ((8 ≤ n) × (n ≤ 13))
+abbrev pub Judged-number : ℕ → Type 0
+Judged-number n = (n ≡ 0) ⊎ (((8 ≤ n) × (n ≤ 13)) ⊎ (n ≡ 17))
 
-pub judged-number : (p : System) (j : Judge) (cs : List Component) → (judged p j cs ≡ 0) ⊎ ((8 ≤ judged p j cs) × (judged p j cs ≤ 13))
+pub judged-number : (p : System) (j : Judge) (cs : List Component) → Judged-number (judged p j cs)
 unfolding judged
 judged-number p j cs =
     either Judged-number (each-once (pairs p) (all-pairs cs))
-    (either Judged-number (back-arc j [] cs) (inr (omega arith)) (among (components-number p j cs)))
-    (inr (omega arith))
+    (either Judged-number (back-arc j [] cs) (inr (inl (omega arith))) (among (components-number p j cs)))
+    (inr (inl (omega arith)))
   where
     among : {n : ℕ} → Component-number n → Judged-number n
     among (inl h) = inl h
-    among (inr h) = inr (omega arith)
-
-pub judged-range : (p : System) (j : Judge) (cs : List Component) → judged p j cs ≤ 13
-judged-range p j cs = ⊎-elim (λ h. omega arith) (λ h. h .1) (judged-number p j cs)
+    among (inr (inl h)) = inr (inl (omega arith))
+    among (inr (inr h)) = inr (inr h)
 
 -- 1 to 7 are the readers'
 pub judged-not-read : (p : System) (j : Judge) (cs : List Component) (n : ℕ) → 1 ≤ n → n ≤ 7 → judged p j cs ≡ n → ⊥
-judged-not-read p j cs n a b e = ⊎-elim (λ h. omega arith) (λ h. omega arith) (judged-number p j cs)
+judged-not-read p j cs n a b e = ⊎-elim (λ h. omega arith) (⊎-elim (λ h. omega arith) (λ h. omega arith)) (judged-number p j cs)
 
 -- WHAT THEY SAY, where first A is demanded, then B, and then the number n is given, which is neither 8 nor 9
 
@@ -73,8 +71,8 @@ module _ (p : System) (j : Judge) (cs : List Component) where
   unfolding judged
   judged-exactly =
       exactly _ _ _ (each-once-means p cs) (back-arc-means j cs)
-      (λ e. ⊎-elim (λ h. omega arith) (λ h. omega arith) (components-number p j cs))
-      (λ e. ⊎-elim (λ h. omega arith) (λ h. omega arith) (components-number p j cs))
+      (λ e. ⊎-elim (λ h. omega arith) (⊎-elim (λ h. omega arith) (λ h. omega arith)) (components-number p j cs))
+      (λ e. ⊎-elim (λ h. omega arith) (⊎-elim (λ h. omega arith) (λ h. omega arith)) (components-number p j cs))
 
   -- 8: some pair stands not at all or twice
   pub judged-8 : (judged p j cs ≡ 8) ↔ (Each-once p cs → ⊥)
@@ -94,10 +92,10 @@ module _ (p : System) (j : Judge) (cs : List Component) where
           λ s. passes .1 (s .each-once, s .no-back-arc, show .1 (s .components-show)),
         )
 
-    -- 10 to 13: each pair stands once, no arc leads to a lower component, and this is the first component's first failure
-    pub judged-10-to-13 :
+    -- 10 to 13 and 17: each pair stands once, no arc leads to a lower component, and this is the first component's first failure
+    pub judged-10-to-17 :
         (n : ℕ) → 10 ≤ n → (judged p j cs ≡ n) ↔ (Each-once p cs × No-back-arc j cs × First-failure p j cs n)
-    judged-10-to-13 n b =
+    judged-10-to-17 n b =
         let passes = judged-exactly .passes n (λ e. omega arith) (λ e. omega arith) in
         let fail = components-fail p j good small-rules cs fit n b in
         (λ h. let s = passes .0 h in (s .0, s .1, fail .0 (s .2)), λ s. passes .1 (s .0, s .1, fail .1 (s .2)))

@@ -1,4 +1,4 @@
--- 8, 9, and each component in turn: 10, or 11, 12, 13; by any judge.
+-- 8, 9, and each component in turn: 10, or weighting by weighting 11, 12, 13, 17; by any judge.
 use mathlib.Core.Bool.{Bool, true, false, _&&_, _||_, cond}
 use mathlib.Core.List.{List, [], _∷_, _++_, map}
 use Prim.Native.Nat.{ℕ}
