@@ -5,12 +5,13 @@ use mathlib.Core.Logic.{_↔_, ⊎-elim}
 use mathlib.Core.List.{List, [], _∷_}
 use Prim.Native.Nat.{ℕ, _≤_}
 use native.Mathlib.Omega.{arith}
-use lib.ListN.{length}
+use lib.ListN.{length, getD}
 use Rattle.rewriting.specs.Terms.{System}
 use Rattle.rewriting.specs.Steps.{full}
 use Rattle.rewriting.specs.Chains.{Terminating, Chains-terminating}
 use Rattle.rewriting.specs.Systems.{member, Good}
-use Rattle.rewriting.proofs.Basics.{each-at}
+use Rattle.rewriting.proofs.Basics.{not-both, each-at}
+use Rattle.rewriting.proofs.Pairs.{pair-left-small, pair-right-small}
 use Rattle.rewriting.proofs.Relations.{sn-next, sn-none, no-endless, no-loop}
 use Rattle.rewriting.proofs.Defined.{defined-exactly, left-defines}
 use Rattle.rewriting.proofs.Steps.{step-keeps}
@@ -33,18 +34,23 @@ use Rattle.pairs.proofs.Ranges.{listing-range, arc-range}
 use Rattle.pairs.proofs.Answering as answering
 use Rattle.polynomials.proofs.Order.{least-means, greater-means}
 use Rattle.polynomials.proofs.Meaning.{polynomial-means, marked-means, sixteen, marked-sixteen}
+use Rattle.polynomials.specs.Judging.{left-under}
+use Rattle.polynomials.proofs.Compared.{call-less}
+use Rattle.polynomials.proofs.Judged.{one-as-before}
+use Rattle.polynomials.proofs.Leaving.{falls-there, stays-before}
 use Rattle.polynomials.proofs.LimitMeans.{over-means, marked-over-means}
-use Rattle.certificates.specs.Components.{Component, no-component}
+use Rattle.certificates.specs.Components.{Component, no-component, no-weighting}
 use Rattle.certificates.specs.CertificateReading.{read-certificate}
 use Rattle.certificates.proofs.ReadBack as certificate-back
 use Rattle.certificates.proofs.OnlyEncodings as certificate-only
 use Rattle.certificates.proofs.Refusals as certificate-refusals
 use Rattle.judging.specs.Judges.{plain}
-use Rattle.judging.specs.Judge.{judged}
+use Rattle.judging.specs.Judge.{call, judged}
 use Rattle.judging.specs.Check.{check}
-use Rattle.judging.specs.Shown.{nth, nth-pair}
+use Rattle.judging.specs.Shown.{nth, nth-pair, Pair-falls}
 use Rattle.judging.proofs.Components.{All-fit}
-use Rattle.judging.proofs.Shows.{judged-8, judged-9, judged-0, judged-10-to-13}
+use Rattle.judging.proofs.Judged.{all-in-time}
+use Rattle.judging.proofs.Shows.{judged-8, judged-9, judged-0, judged-10-to-17}
 use Rattle.judging.proofs.Checking.{check-cut, check-of-read, pack-first, then-certificate, check-range, cut-exactly, judged-as}
 use Rattle.judging.proofs.Plain.{plain-small, judged-plain-terminates}
 use Rattle.texts.specs.TextReading.{text-pack, pack-after, pack-value}
@@ -55,7 +61,7 @@ use Rattle.texts.proofs.ReadBack.{text-read-back}
 use Rattle.promises.specs.Promises
 use Rattle.promises.proofs.Numbers.{counted}
 use Rattle.promises.proofs.Refusing.{pack-cut, only-cut, pack-refuses, failing-refused, certificate-cut, only-certificate-cut, certificate-refuses, failing-certificate, pack-given, certificate-given, either-refuses, either-given, only-pack, only-certificate}
-use Rattle.promises.proofs.Starred.{starred-cases, other-numbers, list-short, list-fills, division-arcs, division-sizes, division-pairs}
+use Rattle.promises.proofs.Starred.{starred-cases, several-cases, other-numbers, list-short, list-fills, division-arcs, division-sizes, division-pairs}
 use Rattle.promises.proofs.Texts.{division-given, division-long, division-accepted, text-answers}
 use Rattle.promises.proofs.Loop.{loop-checked}
 use Rattle.promises.proofs.Largest.{largest-read, largest-long, longest-read, longest-long, dense-read, dense-long, brink-accepted, brink-heavy}
@@ -123,8 +129,9 @@ every-link-kept p q s h o = every-link p q s h o
 
 -- THE FIRST DEMAND
 pub check-range-kept : Promises.Check-range
-unfolding Promises.Check-range Promises.check-numbers
-check-range-kept bs ds = counted 0 14 (check bs ds) [] (omega arith) (omega (arith, check-range bs ds))
+unfolding Promises.Check-range Promises.check-numbers member
+check-range-kept bs ds =
+    ⊎-elim (λ h. counted 0 14 (check bs ds) (17 ∷ []) (omega arith) (omega arith)) (λ h. rw h) (check-range bs ds)
 
 pub listing-range-kept : Promises.Listing-range
 unfolding Promises.Listing-range Promises.listing-numbers member
@@ -168,7 +175,7 @@ fit : (p : System) (ds : List ℕ) (cs : List Component) → read-certificate p 
 unfolding nth nth-pair
 fit p ds cs e i h =
     let s = each-at no-component (certificate-only.certificate-shaped p ds cs e) i h in
-    record { few = s .counts .weightings-few; alone = s .counts .alone; are-pairs = λ k l. each-at (a-pair 0 0) (s .in-order .are-pairs) k l }
+    record { alone = s .counts .alone; are-pairs = λ k l. each-at (a-pair 0 0) (s .in-order .are-pairs) k l }
 
 pub accepted-exactly : Promises.Accepted-exactly
 unfolding Promises.Accepted-exactly
@@ -290,7 +297,7 @@ module _ (n : ℕ) (other : 1 ≤ n → 8 ≤ n) (Fails : System → List Compon
           ∙ here (r .system) (r .components) (r .pack-read) (r .certificate-read) .1 (r .fails)
 
 component-exactly : (n : ℕ) → 10 ≤ n → Promises.Judged-exactly n (Promises.Component-fails n)
-component-exactly n h = judged-exactly n (λ _. omega arith) (Promises.Component-fails n) (λ p cs g f. judged-10-to-13 p (plain p) cs g (plain-small p g) f n h)
+component-exactly n h = judged-exactly n (λ _. omega arith) (Promises.Component-fails n) (λ p cs g f. judged-10-to-17 p (plain p) cs g (plain-small p g) f n h)
 
 pub refused-8 : Promises.Refused-8
 unfolding Promises.Refused-8
@@ -315,6 +322,28 @@ refused-12 = component-exactly 12 (omega arith)
 pub refused-13 : Promises.Refused-13
 unfolding Promises.Refused-13
 refused-13 = component-exactly 13 (omega arith)
+
+pub refused-17 : Promises.Refused-17
+unfolding Promises.Refused-17
+refused-17 = component-exactly 17 (omega arith)
+
+pub one-weighting : Promises.One-weighting
+unfolding Promises.One-weighting
+one-weighting rs w c cs = one-as-before rs w c cs
+
+pub left-means : Promises.Left-means
+unfolding Promises.Left-means Pair-falls call
+left-means p ws q g is =
+    let left = pair-left-small p q is g in
+    let right = pair-right-small p q is g in
+    record {
+      falls = λ h. call-less (getD ws (left-under ws (call p q)) no-weighting) (call p q) left right .0 (falls-there no-weighting ws (call p q) h);
+      not-before = λ i h f. not-both _ (call-less (getD ws i no-weighting) (call p q) left right .1 f) (stays-before no-weighting ws (call p q) i h);
+    }
+
+pub left-in-time : Promises.Left-in-time
+unfolding Promises.Left-in-time
+left-in-time bs ds p cs pack certificate accepted = all-in-time p (plain p) cs (sym (check-of-read bs ds p cs pack certificate) ∙ accepted)
 
 pub packs-obey : Promises.Packs-obey
 unfolding Promises.Packs-obey
@@ -479,6 +508,10 @@ texts-back bs t s g r = text-read-back t g (s .bare) (r .no-5) (r .no-6)
 pub starred-cases-kept : Promises.Starred-cases
 unfolding Promises.Starred-cases
 starred-cases-kept = starred-cases
+
+pub several-cases-kept : Promises.Several-cases
+unfolding Promises.Several-cases
+several-cases-kept = several-cases
 
 pub other-numbers-kept : Promises.Other-numbers
 unfolding Promises.Other-numbers

@@ -21,7 +21,7 @@ use Rattle.pairs.proofs.Listed.{listing-rises, listed-pair-at}
 use Rattle.pairs.proofs.Answering.{pair-records-long}
 use Rattle.certificates.specs.Components.{Component, no-component, no-weighting}
 use Rattle.certificates.specs.CertificateReading.{read-certificate}
-use Rattle.certificates.specs.Encoding.{weight-records, weighting-records, component-records, certificate-bytes, Good-weighting, Good-component, Good-certificate}
+use Rattle.certificates.specs.Encoding.{weight-records, beginning, weighting-records, component-records, certificate-bytes, Good-weighting, Good-component, Good-certificate}
 use Rattle.certificates.proofs.Shapes.{Is-pair}
 use Rattle.certificates.proofs.ReadBack as certificate-back
 use Rattle.judging.specs.Check.{check}
@@ -181,7 +181,7 @@ dense-certificate-good = each-at {P = Good-component dense-pack} no-component (e
 
 -- a C record and the P records
 dense-fits : length (certificate-bytes dense-certificate) ≤ 24576
-unfolding certificate-bytes component-records weighting-records weight-records dense-certificate
+unfolding certificate-bytes component-records weighting-records beginning weight-records dense-certificate
 dense-fits =
     let records = pair-records (pairs dense-pack) in
     omega (arith, length-of-bytes (component-records 0 dense-certificate), length-append records [], pair-records-long (pairs dense-pack), dense-long)

@@ -11,7 +11,7 @@ use Rattle.packs.specs.Encoding.{pack-bytes}
 use Rattle.certificates.specs.Encoding.{certificate-bytes}
 use Rattle.judging.specs.Check.{check}
 use Rattle.promises.proofs.Computed.{computed}
-use Rattle.promises.specs.Examples.{Case, starred, Files, others, division, division-shown, shrinking, shrinking-pairs}
+use Rattle.promises.specs.Examples.{Case, starred, several, Files, others, division, division-shown, shrinking, shrinking-pairs}
 
 abbrev number-given : Case → ℕ
 number-given c = check (pack-bytes (c .pack)) (certificate-bytes (c .certificate))
@@ -22,6 +22,10 @@ number-due c = c .number
 pub starred-cases : map number-given starred ≡ map number-due starred
 unfolding computed
 starred-cases = refl
+
+pub several-cases : map number-given several ≡ map number-due several
+unfolding computed
+several-cases = refl
 
 -- the numbers that none of them has
 abbrev number-of-files : Files → ℕ

@@ -1,15 +1,16 @@
--- The packs and certificates of document 01's examples, written as systems and components.
+-- The packs and certificates of the documents' examples, written as systems and components.
 use mathlib.Core.List.{List, [], _∷_}
 use Prim.Native.Nat.{ℕ}
 use Rattle.rewriting.specs.Terms.{Tree, var, app, nil, cons, Rule, System}
 use Rattle.rewriting.specs.Pairs.{Pair}
 use Rattle.records.specs.declared.Record.{Record}
 use Rattle.records.specs.Records.{a-record, all-record-bytes}
-use Rattle.records.specs.Order.{S-symbol, R-rule, F-application, V-variable, C-component, P-pair}
+use Rattle.records.specs.Order.{S-symbol, R-rule, F-application, V-variable, C-component, P-pair, W-weight, L-weighting}
 use Rattle.packs.specs.Encoding.{pack-bytes}
 use Rattle.pairs.specs.Listing.{a-pair}
 use Rattle.polynomials.specs.Polynomials.{Weight, Weighting}
 use Rattle.certificates.specs.Components.{Component}
+use Rattle.certificates.specs.Encoding.{weight-records}
 
 -- a way to write terms, rules and weights
 abbrev pub constant : ℕ → Tree
@@ -132,6 +133,29 @@ thrice = system (1 ∷ 1 ∷ []) ((app₁ 0 (app₁ 1 (app₁ 1 (app₁ 1 (var 0
 unfoldable pub heavy-s : List Component
 heavy-s = weighted (a-pair 0 0 ∷ []) (a-weight 1 0 1 ∷ a-weight 1 1 65535 ∷ []) (a-weight 0 1 1 ∷ []) ∷ []
 
+-- f(s(x),y) → f(x,s(s(y))), f(x,s(y)) → f(x,y): 0 f, 1 s. The first pair falls by the first argument, the second by the second
+unfoldable pub lexicographic : System
+lexicographic =
+    system (2 ∷ 1 ∷ [])
+    ((app₂ 0 (app₁ 1 (var 0)) (var 1) ⟶ app₂ 0 (var 0) (app₁ 1 (app₁ 1 (var 1))))
+    ∷ (app₂ 0 (var 0) (app₁ 1 (var 1)) ⟶ app₂ 0 (var 0) (var 1))
+    ∷ [])
+
+-- s is 1 + its argument, and the tuple symbol of f one of its arguments
+abbrev by-argument : ℕ → Weighting
+by-argument i = record { weights = a-weight 1 0 1 ∷ a-weight 1 1 1 ∷ []; marked = a-weight 0 i 1 ∷ [] }
+
+-- s is 1 + 65535 times its argument, and the tuple symbol of f twice its second: the first pair's right passes the limit
+abbrev great : Weighting
+great = record { weights = a-weight 1 0 1 ∷ a-weight 1 1 65535 ∷ []; marked = a-weight 0 2 2 ∷ [] }
+
+-- a weighting under which every side is 0
+abbrev idle : Weighting
+idle = record { weights = []; marked = [] }
+
+unfoldable pub lexicographic-under : List Weighting → List Component
+lexicographic-under ws = record { pairs = a-pair 0 0 ∷ a-pair 1 0 ∷ []; weightings = ws } ∷ []
+
 -- THE STARRED CASES but one, a → a under any weighting: pack, certificate, and document 01's number, 0 being accepted
 pub record Case : Type 0 where
   pub pack : System
@@ -156,7 +180,22 @@ starred =
     ∷ gives thrice heavy-s 11
     ∷ []
 
--- A PAIR OF FILES for each number that none of these has
+-- THE CASES of several weightings: both accepted; either alone, and exchanged, 13; an idle one between or after 17, and
+-- where a pair remains after it 13; one under which a pair passes the limit accepted once that pair has left, and 11 before
+unfoldable pub several : List Case
+several =
+    gives lexicographic (lexicographic-under (by-argument 1 ∷ by-argument 2 ∷ [])) 0
+    ∷ gives lexicographic (lexicographic-under (by-argument 1 ∷ [])) 13
+    ∷ gives lexicographic (lexicographic-under (by-argument 2 ∷ [])) 13
+    ∷ gives lexicographic (lexicographic-under (by-argument 2 ∷ by-argument 1 ∷ [])) 13
+    ∷ gives lexicographic (lexicographic-under (by-argument 1 ∷ idle ∷ by-argument 2 ∷ [])) 17
+    ∷ gives lexicographic (lexicographic-under (by-argument 1 ∷ by-argument 2 ∷ idle ∷ [])) 17
+    ∷ gives lexicographic (lexicographic-under (by-argument 1 ∷ idle ∷ [])) 13
+    ∷ gives lexicographic (lexicographic-under (by-argument 1 ∷ great ∷ [])) 0
+    ∷ gives lexicographic (lexicographic-under (great ∷ by-argument 1 ∷ [])) 11
+    ∷ []
+
+-- A PAIR OF FILES for each number from 1 to 7, for 13, and for 2 by L
 pub record Files : Type 0 where
   pub pack : List ℕ
   pub certificate : List ℕ
@@ -173,6 +212,16 @@ pack-gives rs n = record { pack = bytes rs; certificate = []; number = n }
 abbrev loop-gives : List Record → ℕ → Files
 loop-gives rs n = record { pack = pack-bytes loop; certificate = bytes rs; number = n }
 
+-- the pack above with a component of two weightings, of which these records follow the pairs: an L is missing, one too many, or out of
+-- sequence
+abbrev weightings-give : List Record → ℕ → Files
+weightings-give rs n =
+    record {
+      pack = pack-bytes lexicographic;
+      certificate = bytes (a-record C-component 0 2 2 ∷ a-record P-pair 0 0 0 ∷ a-record P-pair 1 0 0 ∷ rs);
+      number = n;
+    }
+
 -- a symbol 0 of arity n, and a rule 0 of one node a side
 abbrev one-rule : ℕ → List Record → List Record
 one-rule n rs = a-record S-symbol 0 n 0 ∷ a-record R-rule 0 1 1 ∷ rs
@@ -186,7 +235,10 @@ others =
     ∷ pack-gives (one-rule 0 (a-record V-variable 0 0 0 ∷ a-record V-variable 0 0 0 ∷ [])) 5
     ∷ pack-gives (one-rule 0 (a-record F-application 0 0 0 ∷ a-record V-variable 0 0 0 ∷ [])) 6
     ∷ loop-gives (a-record C-component 1 0 1 ∷ []) 2
-    ∷ loop-gives (a-record C-component 0 2 1 ∷ []) 3
+    ∷ loop-gives (a-record C-component 0 9 1 ∷ []) 3
     ∷ loop-gives (a-record C-component 0 0 1 ∷ a-record P-pair 0 1 0 ∷ []) 7
     ∷ loop-gives (a-record C-component 0 1 1 ∷ a-record P-pair 0 0 0 ∷ []) 13
+    ∷ weightings-give (weight-records W-weight (by-argument 1 .weights)) 2
+    ∷ weightings-give (a-record L-weighting 1 0 0 ∷ a-record L-weighting 2 0 0 ∷ []) 2
+    ∷ weightings-give (a-record L-weighting 2 0 0 ∷ []) 2
     ∷ []

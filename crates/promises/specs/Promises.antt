@@ -1,18 +1,18 @@
--- What is promised: each statement is a type, with the demand and document 01's sentence that it stands for.
+-- What is promised: each statement is a type, with the demand and the documents' sentence that it stands for.
 -- proofs/Kept.antt has a proof of each, in this order.
 use mathlib.Core.Path.{_≡_}
-use mathlib.Core.Bool.{Bool, true, false, _&&_, _||_}
+use mathlib.Core.Bool.{Bool, true, false, _&&_, _||_, cond}
 use mathlib.Core.List.{List, [], _∷_, _++_, map}
 use mathlib.Core.Logic.{_⊎_}
 use Prim.Native.Nat.{ℕ, suc, _*_, _%_, _≤_, _<_}
 use lib.ListN.{length, getD, take}
-use Rattle.rewriting.specs.Terms.{Tree, System, rule, is-list, is-term, Substitution, substituted, Over}
+use Rattle.rewriting.specs.Terms.{Tree, Rule, System, rule, is-list, is-term, Substitution, substituted, Over}
 use Rattle.rewriting.specs.Steps.{full, Step}
 use Rattle.rewriting.specs.Contexts.{Context, plugged, Contracts}
 use Rattle.rewriting.specs.Termination.{SN}
 use Rattle.rewriting.specs.Pairs.{Pair, is-pair, pair-left, pair-right, same-root, has-root, arguments, defined}
 use Rattle.rewriting.specs.Chains.{Link, Valid, Next, Terminating, Chains-terminating}
-use Rattle.rewriting.specs.Systems.{member, variables-below, is-app, variables, all-in}
+use Rattle.rewriting.specs.Systems.{Good, member, variables-below, is-app, variables, all-in}
 use Rattle.records.specs.declared.Record.{Record}
 use Rattle.records.specs.Outcomes.{refused, passed, refusal}
 use Rattle.records.specs.Records.{record-at, a-record, all-bytes, all-records, all-record-bytes, length-bad}
@@ -28,21 +28,23 @@ use Rattle.pairs.specs.Answers.{listing, buffer-after, list-value, arc-question
 use Rattle.polynomials.specs.Polynomials.{Polynomial, Weight, Weighting, polynomial-of, marked-polynomial, at-least, greater}
 use Rattle.polynomials.specs.Values.{Valuation, term-values, marked-value, value-of}
 use Rattle.polynomials.specs.Limit.{over, marked-over, Nodes-within, Side-within}
-use Rattle.certificates.specs.Components.{Component}
+use Rattle.polynomials.specs.Judging.{Call, any, without, is-none, rule-over, rule-rises, call-over, call-falls, weightings-refusal, left-under}
+use Rattle.certificates.specs.Components.{Component, no-weighting}
 use Rattle.certificates.specs.CertificateReading as certificates
 use Rattle.certificates.specs.CertificateReading.{read-certificate, cert-from, cert-steps}
 use Rattle.certificates.specs.Encoding.{certificate-bytes, Good-certificate}
 use Rattle.certificates.specs.CertificateFailures.{Certificate-fails}
 use Rattle.judging.specs.Judges.{plain}
+use Rattle.judging.specs.Judge.{call}
 use Rattle.judging.specs.Check.{check}
-use Rattle.judging.specs.Shown.{Each-once, No-back-arc, First-failure, Shows}
+use Rattle.judging.specs.Shown.{nth, nth-pair, Each-once, No-back-arc, Pair-falls, First-failure, Shows}
 use Rattle.texts.specs.Spelling.{Text}
 use Rattle.texts.specs.Numbers.{numbered}
 use Rattle.texts.specs.TextReading.{text-pack, pack-after, pack-value}
 use Rattle.texts.specs.GoodTexts.{Spells, Good-text}
 use Rattle.promises.specs.Limits.{largest-pack, longest-certificate, dense-pack, dense-certificate, brink, brink-with}
 use Rattle.promises.specs.TextExamples.{division-text, division-read, division-read-shown, text-cases}
-use Rattle.promises.specs.Examples.{starred, others, division, division-shown, loop, loop-under, constant, app₂}
+use Rattle.promises.specs.Examples.{starred, several, others, division, division-shown, loop, loop-under, constant, app₂}
 
 -- THE THIRD DEMAND
 -- For every pack that passes 1 to 6, all derivations from all terms end exactly when all chains of its pairs end.
@@ -99,7 +101,7 @@ Every-link =
 
 -- THE FIRST DEMAND: every answer is one number of the table
 unfoldable pub check-numbers : List ℕ
-check-numbers = 0 ∷ 1 ∷ 2 ∷ 3 ∷ 4 ∷ 5 ∷ 6 ∷ 7 ∷ 8 ∷ 9 ∷ 10 ∷ 11 ∷ 12 ∷ 13 ∷ []
+check-numbers = 0 ∷ 1 ∷ 2 ∷ 3 ∷ 4 ∷ 5 ∷ 6 ∷ 7 ∷ 8 ∷ 9 ∷ 10 ∷ 11 ∷ 12 ∷ 13 ∷ 17 ∷ []
 
 unfoldable pub Check-range : Type 0
 Check-range = (bs ds : List ℕ) → member (check bs ds) check-numbers ≡ true
@@ -116,7 +118,7 @@ arc-numbers = 0 ∷ 1 ∷ 2 ∷ 3 ∷ 4 ∷ 5 ∷ 6 ∷ 7 ∷ []
 unfoldable pub Arc-range : Type 0
 Arc-range = (bs : List ℕ) (q r : Pair) → member (refusal (arc-question bs q r)) arc-numbers ≡ true
 
--- THE SECOND DEMAND: the check accepts exactly when document 01's conditions are met, else gives the first refusal; listing and arc
+-- THE SECOND DEMAND: the check accepts exactly when the documents' conditions are met, else gives the first refusal; listing and arc
 -- question are exact too
 -- A file is its records.
 unfoldable pub Records-back : Type 0
@@ -147,7 +149,7 @@ Certificates-only =
     (p : System) (ds : List ℕ) (cs : List Component) → all-bytes ds ≡ true → read-certificate p ds ≡ passed cs →
     (ds ≡ certificate-bytes cs) × Good-certificate p cs × (length ds ≤ 24576)
 
--- The check accepts exactly when the certificate meets document 01's conditions.
+-- The check accepts exactly when the certificate meets the documents' conditions.
 pub record Certified (bs ds : List ℕ) : Type 0 where
   pub system : System
   pub components : List Component
@@ -162,7 +164,7 @@ unfoldable pub Accepted-exactly : Type 0
 Accepted-exactly =
     (bs ds : List ℕ) → all-bytes bs ≡ true → all-bytes ds ≡ true → (check bs ds ≡ 0 → Certified bs ds) × (Certified bs ds → check bs ds ≡ 0)
 
--- Else it gives the first refusal in document 01's order. 1: a length is over its limit or no multiple of 8.
+-- Else it gives the first refusal in the documents' order. 1: a length is over its limit or no multiple of 8.
 unfoldable pub Refused-1 : Type 0
 Refused-1 =
     (bs ds : List ℕ) → (check bs ds ≡ 1 → (length-bad 33792 bs || length-bad 24576 ds) ≡ true)
@@ -250,7 +252,7 @@ Certificate-refusals-stay =
     (p : System) (rs more : List Record) (x : certificates.Certificate-reading) (n : ℕ) → cert-steps p rs x ≡ refused n →
     cert-from p (rs ++ more) x ≡ refused n
 
--- 8 to 13: both files were read, everything before holds, and this fails.
+-- 8 to 13 and 17: both files were read, everything before holds, and this fails.
 pub record Read-and (Fails : System → List Component → Type 0) (bs ds : List ℕ) : Type 0 where
   pub system : System
   pub components : List Component
@@ -288,6 +290,33 @@ Refused-12 = Judged-exactly 12 (Component-fails 12)
 -- pair stays
 unfoldable pub Refused-13 : Type 0
 Refused-13 = Judged-exactly 13 (Component-fails 13)
+
+-- none leaves
+unfoldable pub Refused-17 : Type 0
+Refused-17 = Judged-exactly 17 (Component-fails 17)
+
+-- With one weighting the numbers are document 01's: 11, 12, then 13 if some pair does not fall, and never 17.
+unfoldable pub One-weighting : Type 0
+One-weighting =
+    (rs : List Rule) (w : Weighting) (c : Call) (cs : List Call) →
+    weightings-refusal rs (w ∷ []) (c ∷ cs)
+    ≡ cond (any (rule-over w) rs || any (call-over w) (c ∷ cs)) 11
+    (cond (any (rule-rises w) rs) 12 (cond (is-none (without (call-falls w) (c ∷ cs))) 0 13))
+
+-- The weighting under which a pair leaves, as the check tells it in its entry, is the first under which it falls.
+pub record Leaves-under (p : System) (ws : List Weighting) (q : Pair) (number : ℕ) : Type 0 where
+  pub falls : number < length ws → Pair-falls p (getD ws number no-weighting) q
+  pub not-before : (i : ℕ) → i < number → Pair-falls p (getD ws i no-weighting) q → ⊥
+
+unfoldable pub Left-means : Type 0
+Left-means = (p : System) (ws : List Weighting) (q : Pair) → Good p → is-pair p q ≡ true → Leaves-under p ws q (left-under ws (call p q))
+
+-- Where the check accepts, it is one of the component's weightings, if that has any.
+unfoldable pub Left-in-time : Type 0
+Left-in-time =
+    (bs ds : List ℕ) (p : System) (cs : List Component) → read-pack bs ≡ passed p → read-certificate p ds ≡ passed cs → check bs ds ≡ 0 →
+    (i k : ℕ) → i < length cs → 0 < length (nth cs i .weightings) → k < length (nth cs i .pairs) →
+    left-under (nth cs i .weightings) (call p (nth-pair (nth cs i) k)) < length (nth cs i .weightings)
 
 -- Of files that were read, each kind stands after one that the table lets it follow; counts and weightings are Refused-2's.
 unfoldable pub Packs-obey : Type 0
@@ -513,7 +542,11 @@ Texts-back =
 unfoldable pub Starred-cases : Type 0
 Starred-cases = map (λ c. check (pack-bytes (c .pack)) (certificate-bytes (c .certificate))) starred ≡ map (λ c. c .number) starred
 
--- The numbers that none of these has, and 14: a list of 23 bytes is short for Division, and one of 24 is not.
+-- A component with several weightings: accepted, 13 and 17.
+unfoldable pub Several-cases : Type 0
+Several-cases = map (λ c. check (pack-bytes (c .pack)) (certificate-bytes (c .certificate))) several ≡ map (λ c. c .number) several
+
+-- Each number from 1 to 7, 13, 2 by L, and 14: a list of 23 bytes is short for Division, and one of 24 is not.
 unfoldable pub Other-numbers : Type 0
 Other-numbers = map (λ f. check (f .pack) (f .certificate)) others ≡ map (λ f. f .number) others
 
