@@ -13,10 +13,12 @@ use Rattle.rewriting.proofs.Basics.{or-right}
 use Rattle.rewriting.proofs.Trees.{term-not-list}
 use Rattle.weights.specs.declared.Verdict.{Verdict}
 use Rattle.weights.specs.declared.Verdict.the-variants.{Over, Fails, Holds}
+use Rattle.weights.specs.declared.PairVerdict.{PairVerdict}
+use Rattle.weights.specs.declared.PairVerdict.the-variants.{Over as Pair-over, Rises, Stays, Falls}
 use Rattle.polynomials.specs.Polynomials.{Polynomial, Weight, Weighting, polynomials, first, polynomial-of, marked-polynomial, at-least, greater}
 use Rattle.polynomials.specs.Limit.{over, marked-over}
-use Rattle.polynomials.specs.Judging.{Call, rule-over, rule-rises, call-over, call-falls}
-use Rattle.weights.specs.Working.{Weighable, Applied, rooted, rooted-over, verdict}
+use Rattle.polynomials.specs.Judging.{Call, rule-over, rule-rises, call-over, call-rises, call-falls}
+use Rattle.weights.specs.Working.{Weighable, Applied, rooted, rooted-over, verdict, pair-verdict}
 
 -- A PLAIN SIDE
 
@@ -91,10 +93,36 @@ rule-verdict w r h k =
     (rooted-over-plain _ (r .left) h, rooted-over-plain _ (r .right) k, rooted-plain _ (r .left) h, rooted-plain _ (r .right) k, Bool·not-not)
 
 -- on a pair
+unfoldable pub pair-sides : (root ws : List Weight) → (left right : Tree) → PairVerdict
+pair-sides root ws t u =
+    pair-verdict (rooted-over root ws t || rooted-over root ws u) (not (at-least (rooted root ws t) (rooted root ws u)))
+    (greater (rooted root ws t) (rooted root ws u))
+
+module _ (root ws : List Weight) (t u : Tree) where
+  pub left-heavy : rooted-over root ws t ≡ true → Pair-over ≡ pair-sides root ws t u
+  unfolding pair-sides pair-verdict
+  left-heavy o = rw o
+
+  pub right-heavy : rooted-over root ws u ≡ true → Pair-over ≡ pair-sides root ws t u
+  unfolding pair-sides pair-verdict
+  right-heavy o = rw (or-right (rooted-over root ws t) o)
+
+  pub neither-heavy :
+      rooted-over root ws t ≡ false → rooted-over root ws u ≡ false → (b c : Bool) → at-least (rooted root ws t) (rooted root ws u) ≡ b →
+      greater (rooted root ws t) (rooted root ws u) ≡ c → pair-verdict false (not b) c ≡ pair-sides root ws t u
+  unfolding pair-sides
+  neither-heavy o p b c e f = rw (o, p, e, f)
+
+  pub rising-sides :
+      rooted-over root ws t ≡ false → rooted-over root ws u ≡ false → at-least (rooted root ws t) (rooted root ws u) ≡ false →
+      Rises ≡ pair-sides root ws t u
+  unfolding pair-sides pair-verdict
+  rising-sides o p e = rw (o, p, e)
+
 pub call-verdict :
     (w : Weighting) (c : Call) → is-app (c .left) ≡ true → is-app (c .right) ≡ true →
-    sides-verdict (w .marked) (w .weights) greater (c .left) (c .right) ≡ verdict (call-over w c) (call-falls w c)
-unfolding sides-verdict call-over call-falls
+    pair-sides (w .marked) (w .weights) (c .left) (c .right) ≡ pair-verdict (call-over w c) (call-rises w c) (call-falls w c)
+unfolding pair-sides call-over call-rises call-falls
 call-verdict w c h k =
     rw
     (rooted-over-marked w (c .left) h, rooted-over-marked w (c .right) k, rooted-marked w (c .left) h, rooted-marked w (c .right) k)
@@ -112,9 +140,10 @@ as-rule arities nodes left right i j l m ws ms r e =
 
 -- the verdict on a kept pair
 pub as-call :
-    (arities nodes : List ℕ) (left right i j : ℕ) (l : Applied arities nodes left i) (m : Applied arities nodes right j) (ws ms : List Weight) (r : Verdict) →
-    r ≡ sides-verdict ms ws greater (l .side .term) (m .side .term) →
-    r ≡ verdict (call-over (record { weights = ws; marked = ms }) (record { left = l .side .term; right = m .side .term }))
+    (arities nodes : List ℕ) (left right i j : ℕ) (l : Applied arities nodes left i) (m : Applied arities nodes right j) (ws ms : List Weight) (r : PairVerdict) →
+    r ≡ pair-sides ms ws (l .side .term) (m .side .term) →
+    r ≡ pair-verdict (call-over (record { weights = ws; marked = ms }) (record { left = l .side .term; right = m .side .term }))
+    (call-rises (record { weights = ws; marked = ms }) (record { left = l .side .term; right = m .side .term }))
     (call-falls (record { weights = ws; marked = ms }) (record { left = l .side .term; right = m .side .term }))
 as-call arities nodes left right i j l m ws ms r e =
     e ∙ call-verdict (record { weights = ws; marked = ms }) (record { left = l .side .term; right = m .side .term }) (l .applied) (m .applied)
@@ -141,3 +170,35 @@ unfolding verdict
 verdict-holds true holds = (λ e. two-verdicts e (λ e. cc), λ e. absurd (true≢false (e .0)))
 verdict-holds false true = (λ e. (refl, refl), λ e. refl)
 verdict-holds false false = (λ e. two-verdicts e (λ e. cc), λ e. absurd (false≢true (e .1)))
+
+two-pair-verdicts : {C : Type 0} {x y : PairVerdict} → x ≡ y → (x ≡ y → _≡_ {A = ℕ} 0 1) → C
+two-pair-verdicts e differ = let z = differ e in absurd (omega arith)
+
+-- what each verdict on a pair says of the three tests
+pub pair-over-tells : (o r f : Bool) → pair-verdict o r f ≡ Pair-over → o ≡ true
+unfolding pair-verdict
+pair-over-tells true r f e = refl
+pair-over-tells false true f e = two-pair-verdicts e (λ e. cc)
+pair-over-tells false false true e = two-pair-verdicts e (λ e. cc)
+pair-over-tells false false false e = two-pair-verdicts e (λ e. cc)
+
+pub pair-rises-tells : (o r f : Bool) → pair-verdict o r f ≡ Rises → (o ≡ false) × (r ≡ true)
+unfolding pair-verdict
+pair-rises-tells true r f e = two-pair-verdicts e (λ e. cc)
+pair-rises-tells false true f e = (refl, refl)
+pair-rises-tells false false true e = two-pair-verdicts e (λ e. cc)
+pair-rises-tells false false false e = two-pair-verdicts e (λ e. cc)
+
+pub pair-stays-tells : (o r f : Bool) → pair-verdict o r f ≡ Stays → (o ≡ false) × (r ≡ false) × (f ≡ false)
+unfolding pair-verdict
+pair-stays-tells true r f e = two-pair-verdicts e (λ e. cc)
+pair-stays-tells false true f e = two-pair-verdicts e (λ e. cc)
+pair-stays-tells false false true e = two-pair-verdicts e (λ e. cc)
+pair-stays-tells false false false e = (refl, refl, refl)
+
+pub pair-falls-tells : (o r f : Bool) → pair-verdict o r f ≡ Falls → (o ≡ false) × (r ≡ false) × (f ≡ true)
+unfolding pair-verdict
+pair-falls-tells true r f e = two-pair-verdicts e (λ e. cc)
+pair-falls-tells false true f e = two-pair-verdicts e (λ e. cc)
+pair-falls-tells false false true e = (refl, refl, refl)
+pair-falls-tells false false false e = two-pair-verdicts e (λ e. cc)

@@ -12,6 +12,8 @@ use Rattle.terms.specs.Sides.{flat}
 use Rattle.terms.specs.Kept.{Kept}
 use Rattle.weights.specs.declared.Verdict.{Verdict}
 use Rattle.weights.specs.declared.Verdict.the-variants.{Over, Fails, Holds}
+use Rattle.weights.specs.declared.PairVerdict.{PairVerdict}
+use Rattle.weights.specs.declared.PairVerdict.the-variants.{Over as Pair-over, Rises, Stays, Falls}
 use Rattle.polynomials.specs.Polynomials.{Polynomial, Weight, polynomial, no-coefficients, combined, polynomials}
 use Rattle.polynomials.specs.Limit.{over, over-limit}
 use Rattle.weights.specs.Table.{Table-is, Marked-is}
@@ -61,6 +63,10 @@ Side-summed arities nodes table at left skips sums =
     (skips ≡ true → over ws (arguments (w .side .term)) ≡ false) →
     Summed (rooted-over ms ws (w .side .term)) (rooted ms ws (w .side .term)) sums
 
--- what a rule or a pair is found to be: over the limit, or that its sides compare as they must, or not
+-- what rules are found to be: over the limit, or that their sides compare as they must, or not
 unfoldable pub verdict : (passes holds : Bool) → Verdict
 verdict passes holds = cond passes Over (cond holds Holds Fails)
+
+-- what a pair is found to be: over the limit, or that its left is not at least its right, or greater, or neither
+unfoldable pub pair-verdict : (passes rises falls : Bool) → PairVerdict
+pair-verdict passes rises falls = cond passes Pair-over (cond rises Rises (cond falls Falls Stays))

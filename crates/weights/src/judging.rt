@@ -1,4 +1,5 @@
 // One rule, and one pair, under the weights of the table.
+use crate::PairVerdict;
 use crate::Verdict;
 use crate::sums::BEFORE_VARIABLES;
 use crate::sums::SUMS;
@@ -14,12 +15,12 @@ ghost use lib.ListN.{length, replicate};
 ghost use Prim.Native.Nat.{ℕ, _-_, _≤_};
 ghost use Rattle.terms.specs.Kept.{nodes-room};
 ghost use Rattle.polynomials.specs.Polynomials.{Weight};
-ghost use Rattle.polynomials.specs.Judging.{rule-over, rule-rises, call-over, call-falls};
+ghost use Rattle.polynomials.specs.Judging.{rule-over, rule-rises, call-over, call-rises, call-falls};
 ghost use Rattle.rewriting.specs.Pairs.{arguments};
 ghost use Rattle.polynomials.specs.Limit.{over};
 ghost use Rattle.weights.specs.Table.{Table-is, Marked-is};
 ghost use Rattle.weights.specs.Sums.{Summed};
-ghost use Rattle.weights.specs.Working.{Weighable, Applied, rooted, rooted-over, Side-summed, verdict};
+ghost use Rattle.weights.specs.Working.{Weighable, Applied, rooted, rooted-over, Side-summed, verdict, pair-verdict};
 
 // The polynomial of the side of a rule that is kept at `at`, of at most `left` nodes, in sums that were 0.
 fn side(
@@ -91,7 +92,7 @@ pub fn marked_side(
     crate::form_at(sums, 1, at, row, table, nodes, arities, left, skips);
 }
 
-// The pair whose left side `marked_side` has summed up in x, and whose right side is kept at `at`: holds if its left is greater.
+// The pair whose left side `marked_side` has summed up in x, and whose right side is kept at `at`.
 pub fn judge_call(
     arities: &[u8; MOST_SYMBOLS],
     table: &[u16; CELLS],
@@ -100,23 +101,23 @@ pub fn judge_call(
     left: usize,
     skips: bool,
     x: &[u64; SUMS],
-) -> Verdict
+) -> PairVerdict
     requires { ⌜ (length (now nodes) ≤ nodes-room) × Applied (now arities) (now nodes) at left × (length (now x) ≡ 17) ⌝ }
-    ensures { λ r. ⌜ ((there before : ℕ) (l : Applied (now (arities .entry)) (now (nodes .entry)) there before) (m : Applied (now (arities .entry)) (now (nodes .entry)) at left) (ws ms : List Weight) → Side-summed (now (arities .entry)) (now (nodes .entry)) (now (table .entry)) there before skips (now (x .entry)) → Table-is (now (table .entry)) ws → Marked-is (now (table .entry)) ms → (skips ≡ true → (over ws (arguments (l .side .term)) ≡ false) × (over ws (arguments (m .side .term)) ≡ false)) → r ≡ verdict (call-over (record { weights = ws; marked = ms }) (record { left = l .side .term; right = m .side .term })) (call-falls (record { weights = ws; marked = ms }) (record { left = l .side .term; right = m .side .term }))) ⌝ }
+    ensures { λ r. ⌜ ((there before : ℕ) (l : Applied (now (arities .entry)) (now (nodes .entry)) there before) (m : Applied (now (arities .entry)) (now (nodes .entry)) at left) (ws ms : List Weight) → Side-summed (now (arities .entry)) (now (nodes .entry)) (now (table .entry)) there before skips (now (x .entry)) → Table-is (now (table .entry)) ws → Marked-is (now (table .entry)) ms → (skips ≡ true → (over ws (arguments (l .side .term)) ≡ false) × (over ws (arguments (m .side .term)) ≡ false)) → r ≡ pair-verdict (call-over (record { weights = ws; marked = ms }) (record { left = l .side .term; right = m .side .term })) (call-rises (record { weights = ws; marked = ms }) (record { left = l .side .term; right = m .side .term })) (call-falls (record { weights = ws; marked = ms }) (record { left = l .side .term; right = m .side .term }))) ⌝ }
 {
     if crate::sums::over(x) {
-        return Verdict::Over;
+        return PairVerdict::Over;
     }
     let mut y = [0u64; SUMS];
     marked_side(arities, table, nodes, at, left, skips, &mut y);
     if crate::sums::over(&y) {
-        return Verdict::Over;
+        return PairVerdict::Over;
+    }
+    if !crate::sums::all_at_least(x, &y) {
+        return PairVerdict::Rises;
     }
     if x[0] <= y[0] {
-        return Verdict::Fails;
+        return PairVerdict::Stays;
     }
-    if crate::sums::all_at_least(x, &y) {
-        return Verdict::Holds;
-    }
-    Verdict::Fails
+    PairVerdict::Falls
 }

@@ -23,11 +23,19 @@ ghost use Rattle.weights.specs.Table.{Row-is, Table-is};
 ghost use Rattle.weights.specs.Sums.{numbers, Sums, Adds-to};
 ghost use Rattle.weights.specs.Working.{Weighable, rooted, rooted-over, Known-within};
 
-// What a rule or a pair is found to be: over the limit, its sides not as they must be, or as they must.
+// What rules are found to be: over the limit, a left side not at least its right, or each at least its right.
 pub enum Verdict {
     Over,
     Fails,
     Holds,
+}
+
+// What a pair is found to be: over the limit, or its left side not at least its right, at least but not greater, or greater.
+pub enum PairVerdict {
+    Over,
+    Rises,
+    Stays,
+    Falls,
 }
 
 fn wide(x: u16) -> u64
