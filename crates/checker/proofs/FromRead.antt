@@ -1,23 +1,23 @@
 -- What a certificate that was read brings to the judging: components that can be weighed.
-use mathlib.Core.Path.{_≡_, subst}
-use mathlib.Core.List.{List, _∷_}
+use mathlib.Core.Path.{_≡_}
+use mathlib.Core.List.{List}
 use Prim.Native.Nat.{ℕ, _<_}
 use native.Mathlib.Omega.{arith}
 use lib.Dec.{ltb}
 use lib.ListN.{length, getD}
 use borrow.Author.Tests.{ltb-true, leb-true}
 use Rattle.rewriting.specs.Terms.{System}
-use Rattle.rewriting.proofs.Basics.{and-left, and-right, Each, each-head, each-at}
+use Rattle.rewriting.proofs.Basics.{and-left, and-right, Each, each-at}
 use Rattle.records.specs.Outcomes.{passed}
 use Rattle.records.specs.Records.{all-records}
 use Rattle.records.specs.Order.{components-start}
 use Rattle.packs.specs.Encoding.{Good-pack}
 use Rattle.pairs.specs.Listing.{a-pair}
-use Rattle.polynomials.specs.Polynomials.{Weight, Weighting}
-use Rattle.certificates.specs.Components.{Component, no-component, Weights-rise}
+use Rattle.polynomials.specs.Polynomials.{Weight}
+use Rattle.certificates.specs.Components.{Component, no-component, no-weighting, Weights-rise}
 use Rattle.certificates.specs.CertificateReading.{is-place, components-from}
 use Rattle.certificates.specs.Encoding.{no-weight}
-use Rattle.certificates.proofs.Shapes.{Weighting-shaped, At-place}
+use Rattle.certificates.proofs.Shapes.{At-place}
 use Rattle.certificates.proofs.OnlyEncodings.{records-only}
 use Rattle.judging.specs.Shown.{nth}
 use Rattle.partition.specs.Working.{All-pairs, Judgeable}
@@ -40,11 +40,6 @@ module _ (p : System) (ds : List ℕ) (cs : List Component) (read : components-f
               omega (arith, g .arities-small (w .symbol) f);
         }
 
-    weighed : (ws : List Weighting) → Each (Weighting-shaped p) ws → (w : Weighting) (rest : List Weighting) → ws ≡ w ∷ rest → Fillable (w .weights) × Fillable (w .marked)
-    weighed ws e w rest f =
-        let s : Weighting-shaped p w = each-head (subst (λ (l : List Weighting). Each (Weighting-shaped p) l) f e) in
-        (fillable (w .weights) (s .weights-rise) (s .weights-placed), fillable (w .marked) (s .marked-rise) (s .marked-placed))
-
     pub read-fits : (i : ℕ) → i < length cs → Component-fits p (nth cs i)
     unfolding All-pairs
     read-fits i h =
@@ -54,7 +49,8 @@ module _ (p : System) (ds : List ℕ) (cs : List Component) (read : components-f
           pairs-few = s .counts .pairs-few;
           alone = s .counts .alone;
           are-pairs = λ k l. each-at (a-pair 0 0) (s .in-order .are-pairs) k l;
-          fillable = λ w ws f. weighed (nth cs i .weightings) (s .in-order .weightings-shaped) w ws f;
+          weights-fillable = λ k l. let w = each-at no-weighting (s .in-order .weightings-shaped) k l in fillable _ (w .weights-rise) (w .weights-placed);
+          marked-fillable = λ k l. let w = each-at no-weighting (s .in-order .weightings-shaped) k l in fillable _ (w .marked-rise) (w .marked-placed);
         }
 
 -- all components, for the judging of each in turn
@@ -63,8 +59,9 @@ unfolding nth
 all-fit p ds cs read g i h = read-fits p ds cs read g i h
 
 abbrev pub components-asked :
-    {ds : List ℕ} {components rules : ℕ} {ar ss ns ms : List ℕ} → Judgeable ds components rules ar ss ns ms → Components-asked ds components rules ar ss ns ms
-components-asked {ds} j =
+    {ds : List ℕ} {components rules : ℕ} {ar ss ns ms : List ℕ} (j : Judgeable ds components rules ar ss ns ms) {lefts : List ℕ} → length lefts ≡ 3072 →
+    ((k : ℕ) → getD lefts k 0 ≡ 0) → Components-asked ds components rules ar ss ns ms lefts
+components-asked {ds} j long zero =
     let p = j .kept .system in
     record {
       file = j .file;
@@ -73,4 +70,6 @@ components-asked {ds} j =
       counted = j .counted;
       are = records-only p (all-records ds) (j .all) (j .read);
       fit = all-fit p ds (j .all) (j .read) (j .kept .stored .good);
+      lefts-long = long;
+      all-present = zero;
     }

@@ -20,13 +20,15 @@ use Rattle.terms.specs.Kept.{Kept}
 use Rattle.pack_reader.specs.Stored.{Stored}
 use Rattle.pair_finder.proofs.FromStore.{stored-rule, subterm-at}
 use Rattle.weights.specs.declared.Verdict.{Verdict}
+use Rattle.weights.specs.declared.PairVerdict.{PairVerdict}
 use Rattle.polynomials.specs.Polynomials.{Weight, Weighting}
 use Rattle.polynomials.specs.Limit.{over}
 use Rattle.polynomials.proofs.Lists.{mem-at, any-false-mem}
-use Rattle.polynomials.specs.Judging.{rule-over, rule-rises, call-over, call-falls}
-use Rattle.weights.specs.Working.{Weighable, Applied, verdict}
+use Rattle.polynomials.specs.Judging.{rule-over, rule-rises, call-over, call-rises, call-falls}
+use Rattle.weights.specs.Working.{Weighable, Applied, verdict, pair-verdict}
+use Rattle.partition.specs.Working.{All-pairs}
 use Rattle.judging.specs.Judge.{call}
-use Rattle.checker.specs.Working.{rules-over}
+use Rattle.checker.specs.Working.{rules-over, Arguments-within}
 
 -- a subterm ends within the term
 subterm-inside : (t : Tree) (k : ℕ) → k < length (subterms t) → k + length (flat (getD (subterms t) k nil)) ≤ length (flat t)
@@ -63,12 +65,12 @@ defined-applied p (cons t ts) h = h
 
 -- WHAT STANDS BELOW A ROOT, where the term is within the limit
 
-arguments-within : (ws : List Weight) (t : Tree) → over ws t ≡ false → over ws (arguments t) ≡ false
+below-within : (ws : List Weight) (t : Tree) → over ws t ≡ false → over ws (arguments t) ≡ false
 unfolding over arguments
-arguments-within ws (var v) h = refl
-arguments-within ws (app f ts) h = or-left-false (over ws ts) _ h
-arguments-within ws nil h = refl
-arguments-within ws (cons t ts) h = refl
+below-within ws (var v) h = refl
+below-within ws (app f ts) h = or-left-false (over ws ts) _ h
+below-within ws nil h = refl
+below-within ws (cons t ts) h = refl
 
 subterms-within : (ws : List Weight) (t : Tree) → over ws t ≡ false → Each (λ u. over ws (arguments u) ≡ false) (subterms t)
 unfolding over subterms arguments
@@ -87,6 +89,15 @@ unfolding rule rule-over rules-over
 rule-within p ws vs i h none =
     let r = any-false-mem (rule-over (weighting ws vs)) (mem-at no-rule (p .rules) i h) none in
     (or-left-false (over ws (rule p i .left)) (over ws (rule p i .right)) r, or-right-false (over ws (rule p i .left)) (over ws (rule p i .right)) r)
+
+-- the arguments of pairs are below roots of rules' sides
+pub arguments-within : (p : System) (ws vs : List Weight) (qs : List Pair) → All-pairs p qs → rules-over p ws vs ≡ false → Arguments-within p ws qs
+unfolding All-pairs pair-left
+arguments-within p ws vs qs are none =
+    record {
+      lefts = λ k h. below-within ws _ (rule-within p ws vs _ (pair-rule p _ (are k h)) none .0);
+      rights = λ k h. pair-right-has p _ (are k h) (subterms-within ws _ (rule-within p ws vs _ (pair-rule p _ (are k h)) none .1));
+    }
 
 module _ {p : System} {symbols rules : ℕ} {ar ss ns ms : List ℕ} (s : Stored p symbols rules ar ss ns ms) where
   stored-arities : take (length (p .arities)) ar ≡ p .arities
@@ -176,13 +187,12 @@ module _ {p : System} {symbols rules : ℕ} {ar ss ns ms : List ℕ} (s : Stored
 
     -- what is answered of the terms kept there is said of the pair
     pub call-answer :
-        (ws vs : List Weight) {x : Verdict} → rules-over p ws vs ≡ false →
+        (ws vs : List Weight) {x : PairVerdict} → over ws (arguments (pair-left p q)) ≡ false → over ws (arguments (pair-right p q)) ≡ false →
         ((l : Applied ar ns (getD ss (2 * q .at-rule) 0) (getD ss (2 * q .at-rule + 1) 0 - getD ss (2 * q .at-rule) 0)) (m : Applied ar ns right-begins (right-ends - right-begins)) →
         over ws (arguments (l .side .term)) ≡ false → over ws (arguments (m .side .term)) ≡ false →
-        x ≡ verdict (call-over (weighting ws vs) (record { left = l .side .term; right = m .side .term })) (call-falls (weighting ws vs) (record { left = l .side .term; right = m .side .term }))) →
-        x ≡ verdict (call-over (weighting ws vs) (call p q)) (call-falls (weighting ws vs) (call p q))
+        x
+        ≡ pair-verdict (call-over (weighting ws vs) (record { left = l .side .term; right = m .side .term })) (call-rises (weighting ws vs) (record { left = l .side .term; right = m .side .term }))
+        (call-falls (weighting ws vs) (record { left = l .side .term; right = m .side .term }))) →
+        x ≡ pair-verdict (call-over (weighting ws vs) (call p q)) (call-rises (weighting ws vs) (call p q)) (call-falls (weighting ws vs) (call p q))
     unfolding left-applied right-applied left-weighable call pair-left
-    call-answer ws vs none answer =
-        let within = rule-within p ws vs (q .at-rule) (pair-rule p q is) none in
-        answer left-applied right-applied (arguments-within ws (rule p (q .at-rule) .left) (within .0))
-        (pair-right-has p q is (subterms-within ws (rule p (q .at-rule) .right) (within .1)))
+    call-answer ws vs left right answer = answer left-applied right-applied left right

@@ -4,5 +4,10 @@ pub mod FromStore
 pub mod Positions
 pub mod Tables
 pub mod Runs
+pub mod Present
 pub mod Verdicts
+pub mod Tallies
+pub mod Turns
 pub mod Known
+pub mod Weightings
+pub mod Components

@@ -1,24 +1,15 @@
--- The verdicts on the rules and on the pairs of a component: each found by judging one after another, and the number that the
--- two come to under one weighting.
+-- The verdict on all rules: found by judging one after another.
 use mathlib.Core.Path.{_≡_, refl, sym, _∙_}
-use mathlib.Core.Bool.{Bool, true, false, _&&_, _||_, not, cond, true≢false}
-use mathlib.Core.Logic.{Iff·rfl}
+use mathlib.Core.Bool.{Bool, true, false, _&&_, _||_, not}
 use mathlib.Core.List.{List, [], _∷_}
-use Prim.Native.Nat.{ℕ}
-use native.Mathlib.Nat.{le-of-lt}
-use lib.Dec.{ltb, eqb}
-use borrow.Author.Tests.{ltb-true, le-leb}
 use Rattle.rewriting.specs.Terms.{System, Rule}
-use Rattle.rewriting.proofs.Basics.{and-left, and-right}
-use Rattle.records.specs.Outcomes.{Outcome, refused, passed}
 use Rattle.weights.specs.declared.Verdict.{Verdict}
 use Rattle.weights.specs.declared.Verdict.the-variants.{Over, Fails, Holds}
-use Rattle.polynomials.specs.Polynomials.{Weight, Weighting, marked-polynomial, at-least, greater, each-at-least}
-use Rattle.polynomials.specs.Judging.{Call, no-call, any, without, is-none, rule-over, rule-rises, call-over, call-rises, call-falls, weightings-refusal}
+use Rattle.polynomials.specs.Polynomials.{Weight, Weighting}
+use Rattle.polynomials.specs.Judging.{any, rule-over, rule-rises}
 use Rattle.weights.specs.Working.{verdict}
-use Rattle.polynomials.proofs.Lists.{none-pass, all-leave}
 use Rattle.weights.proofs.Working.{verdict-over, verdict-fails, verdict-holds}
-use Rattle.checker.specs.Working.{is-over, rules-over, rules-verdict, chosen}
+use Rattle.checker.specs.Working.{is-over, rules-over, rules-verdict}
 
 -- ONE AFTER ANOTHER
 
@@ -70,13 +61,10 @@ module _ {A : Type 0} {over holds : A → Bool} {all-hold : List A → Bool} (as
         let o = verdict-holds (over x) (holds x) .0 (sym is ∙ e) in
         record { overs = rw (o .0) at (s .overs); holding = s .holding ∙ rw (asks .more x left, o .1) }
 
--- of rules it is asked whether none rises, of pairs whether all fall
+-- of rules it is asked whether none rises
 module _ (w : Weighting) where
   abbrev pub rules-hold : List Rule → Bool
   rules-hold rs = not (any (rule-rises w) rs)
-
-  abbrev pub calls-hold : List Call → Bool
-  calls-hold cs = is-none (without (call-falls w) cs)
 
   pub rules-asked : Asks-each (λ r. not (rule-rises w r)) rules-hold
   unfolding any
@@ -85,54 +73,6 @@ module _ (w : Weighting) where
       neither : (a b : Bool) → not (a || b) ≡ (not a && not b)
       neither true b = refl
       neither false b = refl
-
-  pub calls-asked : Asks-each (call-falls w) calls-hold
-  unfolding without is-none
-  calls-asked = record { none = refl; more = λ c cs. leaves (call-falls w c) c (without (call-falls w) cs) }
-    where
-      leaves : (b : Bool) (c : Call) (cs : List Call) → is-none (cond b cs (c ∷ cs)) ≡ (b && is-none cs)
-      leaves true c cs = refl
-      leaves false c cs = refl
-
-  -- THE NUMBER
-
-  falls-not-rises : (c : Call) → call-falls w c ≡ true → call-rises w c ≡ false
-  unfolding call-falls call-rises greater at-least
-  falls-not-rises c h =
-      let x = marked-polynomial w (c .left) in
-      let y = marked-polynomial w (c .right) in
-      let less = ltb-true (y .constant) (x .constant) (and-left _ _ h) in
-      rw (le-leb (y .constant) (x .constant) (le-of-lt less), and-right (ltb (y .constant) (x .constant)) (each-at-least (x .coefficients) (y .coefficients)) h)
-
-  none-rises : (cs : List Call) → calls-hold cs ≡ true → any (call-rises w) cs ≡ false
-  none-rises cs h =
-      none-pass (call-rises w) no-call cs (λ i k. Iff·rfl) .1
-      (λ i k. falls-not-rises _ (all-leave (call-falls w) no-call cs (λ i k. Iff·rfl) .0 h i k))
-
-  -- the number as an answer: none is the record after the component
-  abbrev pub answered : (next number : ℕ) → Outcome ℕ
-  answered next n = cond (eqb n 0) (passed next) (refused n)
-
-  by-tests : (rule-over rule-rises call-over all-fall call-rises : Bool) (next : ℕ) → (all-fall ≡ true → call-rises ≡ false) →
-      chosen (verdict rule-over (not rule-rises)) (verdict call-over all-fall) next
-      ≡ answered next (cond (rule-over || call-over) 11 (cond rule-rises 12 (cond call-rises 13 (cond all-fall 0 13))))
-  unfolding chosen verdict
-  by-tests true rr co af cr n h = refl
-  by-tests false true true af cr n h = refl
-  by-tests false true false true cr n h = refl
-  by-tests false true false false cr n h = refl
-  by-tests false false true af cr n h = refl
-  by-tests false false false true true n h = absurd (true≢false (h refl))
-  by-tests false false false true false n h = refl
-  by-tests false false false false true n h = refl
-  by-tests false false false false false n h = refl
-
-  pub chosen-number : (rs : List Rule) (cs : List Call) (next : ℕ) →
-      chosen (verdict (any (rule-over w) rs) (rules-hold rs)) (verdict (any (call-over w) cs) (calls-hold cs)) next
-      ≡ answered next (weightings-refusal rs (w ∷ []) cs)
-  unfolding weightings-refusal
-  chosen-number rs cs next =
-      by-tests (any (rule-over w) rs) (any (rule-rises w) rs) (any (call-over w) cs) (calls-hold cs) (any (call-rises w) cs) next (none-rises cs)
 
 -- no rule is over where the verdict on them is not
 not-over : (passes holds : Bool) → is-over (verdict passes holds) ≡ false → passes ≡ false

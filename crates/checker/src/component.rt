@@ -1,34 +1,56 @@
-// Each component in turn: 10, or 11, 12, 13.
+// Each component in turn: 10, or weighting by weighting 11, 12, 13, 17.
+use crate::weighing::Tally;
 use records::Answer;
+use records::MOST_RECORDS;
 use records::Refusal;
 use terms::MOST_SYMBOLS;
 use terms::NODES_ROOM;
 use weights::Verdict;
 use weights::table::CELLS;
 ghost use mathlib.Core.Path.{_≡_};
-ghost use Rattle.records.specs.Outcomes.{refusal};
 ghost use Rattle.records.specs.Answers.{answer-outcome};
-ghost use Rattle.judging.specs.Judges.{plain};
-ghost use Rattle.judging.specs.Judge.{components-refusal};
-ghost use Rattle.checker.specs.Working.{is-over, chosen, last-weights, Component-judged, Refill-asked, Refilled, Calls-asked, Calls-judged, Component-there, Unweighted-asked, Weighted-asked, Weighted-judged, Component-asked, Component-answered, Components-asked};
+ghost use Rattle.checker.specs.Working.{is-over, fails, chosen, Component-judged, Refill-asked, Refilled, Calls-asked, Calls-judged, Unweighted-asked, Turn-asked, Turn-judged, Weighted-asked, Weighted-judged, Component-asked, Component-answered, Components-asked, Components-judged};
 
-// The first in document 01's order: 11 for either, 12 for the rules, 13 for the pairs.
-fn choose(rules: Verdict, calls: Verdict, next: usize) -> Answer
-    ensures { λ r. ⌜ answer-outcome r ≡ chosen rules calls next ⌝ }
+// Which weighting of a component is judged: its number, whether it is the last, and the number of the component's first pair among
+// all that the certificate names.
+pub struct Turn {
+    pub number: u8,
+    pub last: bool,
+    pub first: usize,
+}
+
+// What a component came to: the record after it or a refusal, and where the W records begin whose weights the table then holds.
+pub struct Found {
+    pub answer: Answer,
+    pub weights: usize,
+}
+
+// The first in document 02's order: 11 for either, 12 for the rules, 13 for a pair that rises or remains after the last weighting, 17
+// where no pair leaves.
+fn choose(rules: Verdict, pairs: Tally, last: bool, next: usize) -> Answer
+    ensures { λ r. ⌜ answer-outcome r ≡ chosen rules pairs last next ⌝ }
 {
-    match rules {
-        Verdict::Over => Answer::Refused(Refusal::Heavy),
-        Verdict::Fails => match calls {
-            Verdict::Over => Answer::Refused(Refusal::Heavy),
-            Verdict::Fails => Answer::Refused(Refusal::RuleRises),
-            Verdict::Holds => Answer::Refused(Refusal::RuleRises),
-        },
-        Verdict::Holds => match calls {
-            Verdict::Over => Answer::Refused(Refusal::Heavy),
-            Verdict::Fails => Answer::Refused(Refusal::PairStays),
-            Verdict::Holds => Answer::Passed(next),
-        },
+    if is_over(rules) {
+        return Answer::Refused(Refusal::Heavy);
     }
+    if pairs.over {
+        return Answer::Refused(Refusal::Heavy);
+    }
+    if fails(rules) {
+        return Answer::Refused(Refusal::RuleRises);
+    }
+    if pairs.rises {
+        return Answer::Refused(Refusal::PairStays);
+    }
+    if last {
+        if pairs.stays {
+            return Answer::Refused(Refusal::PairStays);
+        }
+    }
+    if pairs.falls {
+        return Answer::Passed(next);
+    }
+    Answer::Refused(Refusal::NoneLeaves)
 }
 
 // Puts the W records from record `from` on into the table, in place of those from record `before` on. Answers the record after them.
@@ -54,28 +76,44 @@ fn is_over(v: Verdict) -> bool
     }
 }
 
-// The pairs from record `from` on under the table and the M records from record `middle` on, and what they and the rules come to,
-// where no rule is over.
+// Whether it is that a rule rises.
+fn fails(v: Verdict) -> bool
+    ensures { λ r. ⌜ r ≡ fails v ⌝ }
+{
+    match v {
+        Verdict::Over => false,
+        Verdict::Fails => true,
+        Verdict::Holds => false,
+    }
+}
+
+// The pairs present of those from record `from` on, under the table and the M records from record `middle` on, and what they and the
+// rules come to, where no rule is over.
 fn judge_calls(
     certificate: &[u8],
     from: usize,
     count: usize,
     middle: usize,
     verdict: Verdict,
+    turn: Turn,
+    lefts: &mut [u8; MOST_RECORDS],
     arities: &[u8; MOST_SYMBOLS],
     table: &mut [u16; CELLS],
     starts: &[u16],
     nodes: &[u8; NODES_ROOM],
     rules: usize,
 ) -> Answer
-    requires { ⌜ Calls-asked (now certificate) from count middle rules (now arities) (now starts) (now nodes) (now table) ⌝ }
-    ensures { λ r. ⌜ Calls-judged (now (certificate .entry)) from count middle rules (now (arities .entry)) (now (starts .entry)) (now (nodes .entry)) (now (table .entry)) (now (table .exit)) verdict r ⌝ }
+    requires { ⌜ Calls-asked (now certificate) from count middle rules (now arities) (now starts) (now nodes) (now table) (now lefts) turn ⌝ }
+    ensures { λ r. ⌜ Calls-judged (now (certificate .entry)) from count middle rules (now (arities .entry)) (now (starts .entry)) (now (nodes .entry)) (now (table .entry)) (now (table .exit)) (now (lefts .entry)) (now (lefts .exit)) turn verdict r ⌝ }
 {
     let next = crate::weighing::fill(certificate, middle, b'M', table);
     let c = crate::weighing::judge_pairs(
         certificate,
         from,
         count,
+        turn.first,
+        turn.number,
+        lefts,
         arities,
         table,
         starts,
@@ -83,26 +121,29 @@ fn judge_calls(
         rules,
     );
     crate::weighing::clear(certificate, middle, b'M', table);
-    choose(verdict, c, next)
+    choose(verdict, c, turn.last, next)
 }
 
-// A component with a weighting, whose C record is record `at`: 11, 12, 13. Answers the record after it. The rules are not judged
-// again under the weights of the weighted component before, which are in the table; the table then holds those of this one.
-fn weighted(
+// One weighting of the component whose C record is record `at`; its W records begin at record `from`. Answers the record after its M
+// records. The rules are not judged again under the weights that were judged just before, which are in the table; the table then holds
+// those of this one.
+fn one_weighting(
     certificate: &[u8],
     at: usize,
     count: usize,
+    from: usize,
+    turn: Turn,
     before: usize,
     table: &mut [u16; CELLS],
+    lefts: &mut [u8; MOST_RECORDS],
     arities: &[u8; MOST_SYMBOLS],
     starts: &[u16],
     nodes: &[u8; NODES_ROOM],
     rules: usize,
 ) -> Answer
-    requires { ⌜ Weighted-asked (now certificate) at count before rules (now arities) (now starts) (now nodes) (now table) ⌝ }
-    ensures { λ r. ⌜ Weighted-judged (now (certificate .entry)) at count before rules (now (arities .entry)) (now (starts .entry)) (now (nodes .entry)) (now (table .entry)) (now (table .exit)) r ⌝ }
+    requires { ⌜ Turn-asked (now certificate) at count from before rules (now arities) (now starts) (now nodes) (now table) (now lefts) turn ⌝ }
+    ensures { λ r. ⌜ Turn-judged (now (certificate .entry)) at count from before rules (now (arities .entry)) (now (starts .entry)) (now (nodes .entry)) (now (table .entry)) (now (table .exit)) (now (lefts .entry)) (now (lefts .exit)) turn r ⌝ }
 {
-    let from = at + 1 + count;
     let same = crate::weighing::same_weights(certificate, before, from);
     if 0 < same {
         return judge_calls(
@@ -111,6 +152,8 @@ fn weighted(
             count,
             same,
             Verdict::Holds,
+            turn,
+            lefts,
             arities,
             table,
             starts,
@@ -130,12 +173,77 @@ fn weighted(
         count,
         middle,
         r,
+        turn,
+        lefts,
         arities,
         table,
         starts,
         nodes,
         rules,
     )
+}
+
+// The weightings of a component, one after the other, over the pairs that are present. In the end `lefts` has for each of its pairs the
+// number of the weighting under which it left.
+fn weighted(
+    certificate: &[u8],
+    at: usize,
+    count: usize,
+    weightings: u8,
+    first: usize,
+    before: usize,
+    table: &mut [u16; CELLS],
+    lefts: &mut [u8; MOST_RECORDS],
+    arities: &[u8; MOST_SYMBOLS],
+    starts: &[u16],
+    nodes: &[u8; NODES_ROOM],
+    rules: usize,
+) -> Found
+    requires { ⌜ Weighted-asked (now certificate) at count weightings first before rules (now arities) (now starts) (now nodes) (now table) (now lefts) ⌝ }
+    ensures { λ r. ⌜ Weighted-judged (now (certificate .entry)) at count weightings first before rules (now (arities .entry)) (now (starts .entry)) (now (nodes .entry)) (now (table .entry)) (now (table .exit)) (now (lefts .entry)) (now (lefts .exit)) r ⌝ }
+{
+    let mut weights = before;
+    let mut from = at + 1 + count;
+    let mut number = 0u8;
+    while number < weightings {
+        let last = number + 1 == weightings;
+        let turn = Turn {
+            number,
+            last,
+            first,
+        };
+        match one_weighting(
+            certificate,
+            at,
+            count,
+            from,
+            turn,
+            weights,
+            table,
+            lefts,
+            arities,
+            starts,
+            nodes,
+            rules,
+        ) {
+            Answer::Refused(x) => {
+                return Found {
+                    answer: Answer::Refused(x),
+                    weights,
+                };
+            }
+            Answer::Passed(next) => {
+                weights = from;
+                // Past the L record of the next one.
+                from = next + 1;
+            }
+        }
+        number = number + 1;
+    }
+    Found {
+        answer: Answer::Passed(from - 1),
+        weights,
+    }
 }
 
 // A component without a weighting: 10. Answers the record after it.
@@ -160,31 +268,40 @@ fn unweighted(
     Answer::Passed(at + 2)
 }
 
-// The component whose C record is record `at`. Answers the record after it.
+// The component whose C record is record `at`.
 fn judge_component(
     certificate: &[u8],
     at: usize,
+    first: usize,
     before: usize,
     table: &mut [u16; CELLS],
+    lefts: &mut [u8; MOST_RECORDS],
     arities: &[u8; MOST_SYMBOLS],
     starts: &[u16],
     nodes: &[u8; NODES_ROOM],
     defined: &[u8],
     rules: usize,
-) -> Answer
-    requires { ⌜ Component-asked (now certificate) at before rules (now arities) (now starts) (now nodes) (now defined) (now table) ⌝ }
-    ensures { λ r. ⌜ Component-answered (now (certificate .entry)) at before rules (now (arities .entry)) (now (starts .entry)) (now (nodes .entry)) (now (defined .entry)) (now (table .entry)) (now (table .exit)) r ⌝ }
+) -> Found
+    requires { ⌜ Component-asked (now certificate) at first before rules (now arities) (now starts) (now nodes) (now defined) (now table) (now lefts) ⌝ }
+    ensures { λ r. ⌜ Component-answered (now (certificate .entry)) at first before rules (now (arities .entry)) (now (starts .entry)) (now (nodes .entry)) (now (defined .entry)) (now (table .entry)) (now (table .exit)) (now (lefts .entry)) (now (lefts .exit)) r ⌝ }
 {
     let r = records::record_at(certificate, 8 * at);
     if r.b == 0 {
-        return unweighted(certificate, at, arities, starts, nodes, defined, rules);
+        let answer = unweighted(certificate, at, arities, starts, nodes, defined, rules);
+        return Found {
+            answer,
+            weights: before,
+        };
     }
     weighted(
         certificate,
         at,
         r.c as usize,
+        (r.b % 256) as u8,
+        first,
         before,
         table,
+        lefts,
         arities,
         starts,
         nodes,
@@ -192,19 +309,8 @@ fn judge_component(
     )
 }
 
-// Where the W records of the last weighted component begin, once the component at record `at` has passed.
-fn last_weights(certificate: &[u8], at: usize, before: usize) -> usize
-    requires { ⌜ Component-there (now certificate) at ⌝ }
-    ensures { λ r. ⌜ ((a : Component-there (now (certificate .entry)) at) → r ≡ last-weights (a .component) at before) ⌝ }
-{
-    let r = records::record_at(certificate, 8 * at);
-    if r.b == 0 {
-        return before;
-    }
-    at + 1 + r.c as usize
-}
-
-// All components: the first refusal.
+// All components: the first refusal. Where there is none, `lefts` has for each pair, in the certificate's order, the number of the
+// weighting under which it left.
 pub fn judge_components(
     certificate: &[u8],
     components: usize,
@@ -213,32 +319,40 @@ pub fn judge_components(
     starts: &[u16],
     nodes: &[u8; NODES_ROOM],
     defined: &[u8],
+    lefts: &mut [u8; MOST_RECORDS],
 ) -> Answer
-    requires { ⌜ Components-asked (now certificate) components rules (now arities) (now starts) (now nodes) (now defined) ⌝ }
-    ensures { λ r. ⌜ ((a : Components-asked (now (certificate .entry)) components rules (now (arities .entry)) (now (starts .entry)) (now (nodes .entry)) (now (defined .entry))) → refusal (answer-outcome r) ≡ components-refusal (a .kept .system) (plain (a .kept .system)) (a .all)) ⌝ }
+    requires { ⌜ Components-asked (now certificate) components rules (now arities) (now starts) (now nodes) (now defined) (now lefts) ⌝ }
+    ensures { λ r. ⌜ Components-judged (now (certificate .entry)) components rules (now (arities .entry)) (now (starts .entry)) (now (nodes .entry)) (now (defined .entry)) (now (lefts .entry)) (now (lefts .exit)) r ⌝ }
 {
     let mut table = [0u16; CELLS];
     let mut before = 0;
     let mut at = 0;
+    let mut first = 0;
     let mut i = 0;
     while i < components {
-        match judge_component(
+        let r = records::record_at(certificate, 8 * at);
+        let found = judge_component(
             certificate,
             at,
+            first,
             before,
             &mut table,
+            lefts,
             arities,
             starts,
             nodes,
             defined,
             rules,
-        ) {
+        );
+        let answer = found.answer;
+        match answer {
             Answer::Refused(x) => {
                 return Answer::Refused(x);
             }
             Answer::Passed(next) => {
-                before = last_weights(certificate, at, before);
+                before = found.weights;
                 at = next;
+                first = first + r.c as usize;
             }
         }
         i = i + 1;

@@ -1,9 +1,11 @@
 // The weights of a component in the table, and all rules and its pairs under them.
+use records::MOST_RECORDS;
 use records::Record;
 use terms::MOST_SYMBOLS;
 use terms::Marked;
 use terms::NODES_ROOM;
 use terms::Symbol;
+use weights::PairVerdict;
 use weights::Verdict;
 use weights::sums::SUMS;
 use weights::table::CELLS;
@@ -11,10 +13,10 @@ ghost use mathlib.Core.Path.{_≡_};
 ghost use mathlib.Core.Bool.{true, false};
 ghost use mathlib.Core.List.{List};
 ghost use Prim.Native.Nat.{_+_, _*_, _≤_, _<_};
-ghost use lib.ListN.{set};
+ghost use lib.ListN.{getD, set};
 ghost use Rattle.polynomials.specs.Polynomials.{Weight};
-ghost use Rattle.weights.specs.Table.{Table-is, Marked-is};
-ghost use Rattle.checker.specs.Working.{own-base, rules-over, rules-verdict, calls-verdict, Fill-asked, Filled, Clear-asked, Cleared, Same-record, Weights-agree, Rules-asked, Pairs-asked};
+ghost use Rattle.weights.specs.Table.{Table-is};
+ghost use Rattle.checker.specs.Working.{own-base, rules-verdict, with-verdict, number-after, Fill-asked, Filled, Clear-asked, Cleared, Same-record, Weights-agree, Rules-asked, Present-asked, Present-judged};
 
 // Above the number of every rule.
 const NO_RULE: usize = 65536;
@@ -150,58 +152,135 @@ pub fn judge_rules(
     Verdict::Holds
 }
 
-// The pairs whose records stand from record `from` on, where no rule is over: over if one is, else failing if one does not fall.
-// The left side is worked out once for consecutive pairs of a rule.
+// What the pairs present come to under a weighting: whether one is over the limit and, where none is, whether one rises, one stays,
+// one falls.
+pub struct Tally {
+    pub over: bool,
+    pub rises: bool,
+    pub stays: bool,
+    pub falls: bool,
+}
+
+// With one more pair.
+fn noted(t: Tally, v: PairVerdict) -> Tally
+    ensures { λ r. ⌜ r ≡ with-verdict t v ⌝ }
+{
+    match v {
+        PairVerdict::Over => Tally {
+            over: true,
+            rises: t.rises,
+            stays: t.stays,
+            falls: t.falls,
+        },
+        PairVerdict::Rises => Tally {
+            over: t.over,
+            rises: true,
+            stays: t.stays,
+            falls: t.falls,
+        },
+        PairVerdict::Stays => Tally {
+            over: t.over,
+            rises: t.rises,
+            stays: true,
+            falls: t.falls,
+        },
+        PairVerdict::Falls => Tally {
+            over: t.over,
+            rises: t.rises,
+            stays: t.stays,
+            falls: true,
+        },
+    }
+}
+
+// Gives a pair that stays the number of the next weighting; any other keeps the number that it has, and nothing is written.
+fn renumber(lefts: &mut [u8; MOST_RECORDS], at: usize, v: PairVerdict, number: u8)
+    requires { ⌜ (at < 3072) × (number < 8) × (getD (now lefts) at 0 ≡ number) ⌝ }
+    ensures { λ _. ⌜ now (lefts .exit) ≡ set (now (lefts .entry)) at (number-after v number) ⌝ }
+{
+    match v {
+        PairVerdict::Over => {
+            return;
+        }
+        PairVerdict::Rises => {
+            return;
+        }
+        PairVerdict::Stays => {
+            lefts[at] = number + 1;
+            return;
+        }
+        PairVerdict::Falls => {
+            return;
+        }
+    }
+}
+
+// The pairs present of those whose records stand from record `from` on, where their arguments are within the limit. The left side is
+// worked out once for consecutive pairs of a rule. A pair that stays gets the number of the next weighting.
 pub fn judge_pairs(
     certificate: &[u8],
     from: usize,
     count: usize,
+    first: usize,
+    number: u8,
+    lefts: &mut [u8; MOST_RECORDS],
     arities: &[u8; MOST_SYMBOLS],
     table: &[u16; CELLS],
     starts: &[u16],
     nodes: &[u8; NODES_ROOM],
     rules: usize,
-) -> Verdict
-    requires { ⌜ Pairs-asked (now certificate) from count rules (now arities) (now starts) (now nodes) ⌝ }
-    ensures { λ r. ⌜ ((a : Pairs-asked (now (certificate .entry)) from count rules (now (arities .entry)) (now (starts .entry)) (now (nodes .entry))) (ws ms : List Weight) → Table-is (now (table .entry)) ws → Marked-is (now (table .entry)) ms → rules-over (a .asked .kept .system) ws ms ≡ false → r ≡ calls-verdict (a .asked .kept .system) (a .pairs) ws ms) ⌝ }
+) -> Tally
+    requires { ⌜ Present-asked (now certificate) from count first number rules (now arities) (now starts) (now nodes) (now lefts) ⌝ }
+    ensures { λ r. ⌜ Present-judged (now (certificate .entry)) from count first number rules (now (arities .entry)) (now (starts .entry)) (now (nodes .entry)) (now (table .entry)) (now (lefts .entry)) (now (lefts .exit)) r ⌝ }
 {
     let mut sums = [0u64; SUMS];
     let mut last = NO_RULE;
-    let mut failed = false;
+    let mut found = Tally {
+        over: false,
+        rises: false,
+        stays: false,
+        falls: false,
+    };
     let mut i = 0;
     while i < count {
-        let r = records::record_at(certificate, 8 * (from + i));
-        let rule = r.a as usize;
-        let left = starts[2 * rule] as usize;
-        let middle = starts[2 * rule + 1] as usize;
-        let end = starts[2 * rule + 2] as usize;
-        let right = middle + r.b as usize;
-        if rule != last {
-            sums = [0u64; SUMS];
-            weights::judging::marked_side(
+        // The others have left.
+        if lefts[first + i] == number {
+            let r = records::record_at(certificate, 8 * (from + i));
+            let rule = r.a as usize;
+            let left = starts[2 * rule] as usize;
+            let middle = starts[2 * rule + 1] as usize;
+            let end = starts[2 * rule + 2] as usize;
+            let right = middle + r.b as usize;
+            if rule != last {
+                sums = [0u64; SUMS];
+                weights::judging::marked_side(
+                    arities,
+                    table,
+                    nodes,
+                    left,
+                    middle - left,
+                    true,
+                    &mut sums,
+                );
+                last = rule;
+            }
+            let v = weights::judging::judge_call(
                 arities,
                 table,
                 nodes,
-                left,
-                middle - left,
+                right,
+                end - right,
                 true,
-                &mut sums,
+                &sums,
             );
-            last = rule;
-        }
-        match weights::judging::judge_call(arities, table, nodes, right, end - right, true, &sums) {
-            Verdict::Over => {
-                return Verdict::Over;
+            found = noted(found, v);
+            let over = found.over;
+            if over {
+                return found;
             }
-            Verdict::Fails => {
-                failed = true;
-            }
-            Verdict::Holds => {}
+            renumber(lefts, first + i, v, number);
         }
         i = i + 1;
     }
-    if failed {
-        return Verdict::Fails;
-    }
-    Verdict::Holds
+    found
 }

@@ -52,20 +52,28 @@ passed-on p cs r n e h =
 
 returns : tie.Need-returns
 unfolding Judged-as
-returns c = λ j. sym (refused-stays _ _ _ _ (c .before .x .given .1) (c .before .before .before .judge .ensures j))
+returns c = λ j.
+    let number = refused-stays _ _ _ _ (c .before .x .given .1) (c .before .before .before .judge .ensures j) in
+    record { numbered = sym number; told = λ h. absurd (omega (arith, number-some (c .before .x .given .0 .0), number)) }
 
 returns-2 : tie.Need-returns-2
 unfolding Judged-as
 returns-2 c = λ j.
-    c .judge-components .ensures (components-asked j) ∙ sym (passed-on _ _ _ _ (c .before .enum-told .given .1) (c .before .before .before .judge .ensures j))
+    let told = c .before .before in
+    let begin = told .before .before .before .before .before .before .before .before .pre in
+    let asked = components-asked j (begin .lefts-long) (begin .all-present) in
+    let number = passed-on _ _ _ _ (told .enum-told .given .1) (told .before .before .judge .ensures j) in
+    record { numbered = c .judge-components .ensures .judged asked ∙ sym number; told = λ h. c .judge-components .ensures .numbers asked (sym number ∙ h) }
 
 pub judge-spec : {M : Type 1} → statement M
 judge-spec =
     tie.close
     (tie.spec
-    (λ c κs. search needs)
+    (λ c κs. c .before .before .before .before .before .pre .read)
     (λ c. search needs)
     (λ c. search needs)
-    (λ c κs. components-asked (c .before .before .before .before .before .before .before .before .pre))
+    (λ c κs.
+    let begin = c .before .before .before .before .before .before .before .before .before .pre in
+    components-asked (begin .read) (begin .lefts-long) (begin .all-present))
     returns
     returns-2)

@@ -1,7 +1,7 @@
 -- `checker::component::unweighted` meets its contract: its one pair is read, and asked for an arc to its own rule.
-use mathlib.Core.Path.{_≡_, refl, ap, _∙_}
+use mathlib.Core.Path.{_≡_, ap, _∙_}
 use mathlib.Core.Bool.{Bool, true, false, cond}
-use mathlib.Core.List.{List, [], _∷_}
+use mathlib.Core.List.{List, []}
 use Prim.Native.Nat.{ℕ, _+_, _*_, _/_, _<_}
 use native.Mathlib.Nat.{add-zero}
 use native.Mathlib.Omega.{arith}
@@ -18,21 +18,17 @@ use Rattle.pairs.specs.Listing.{a-pair, pair-record}
 use Rattle.pairs.specs.Arcs.{arc}
 use Rattle.pair_finder.specs.Walking.{Arc-asked}
 use Rattle.pair_finder.proofs.FromStore.{stored-arc, stored-arc-answer}
-use Rattle.polynomials.specs.Polynomials.{Weighting}
 use Rattle.certificates.specs.Components.{Component}
+use Rattle.certificates.specs.Encoding.{weighting-records}
 use Rattle.judging.specs.Judges.{plain}
 use Rattle.judging.specs.Judge.{weighed-refusal, component-refusal}
 use Rattle.partition.specs.Working.{All-pairs}
-use Rattle.checker.specs.Working.{Component-judged, weight-count, record-count, Unweighted-asked}
+use Rattle.checker.specs.Working.{Component-judged, answered, record-count, Unweighted-asked}
 use Rattle.judging.proofs.Components.{only-arc}
 use Rattle.checker.proofs.FromStore.{pair-in-rules}
-use Rattle.checker.proofs.Positions.{pairs-here, pair-here}
+use Rattle.checker.proofs.Positions.{no-weightings, pairs-here, pair-here}
 use Rattle.checker.proofs.component.unweighted.Statement.{statement}
 use Rattle.checker.proofs.component.unweighted.Tie as tie
-
-no-weightings : (ws : List Weighting) → length ws ≡ 0 → ws ≡ []
-no-weightings [] h = refl
-no-weightings (w ∷ ws) h = absurd (omega arith)
 
 number-of-none : (p : System) (c : Component) → c .weightings ≡ [] → length (c .pairs) ≡ 1 →
     let q = getD (c .pairs) 0 (a-pair 0 0) in component-refusal p (plain p) c ≡ cond (arc p q q) 10 0
@@ -40,7 +36,7 @@ unfolding component-refusal weighed-refusal plain
 number-of-none p c none one = rw (none, only-arc (plain p) (a-pair 0 0) (c .pairs) one)
 
 count-of-none : (c : Component) → c .weightings ≡ [] → length (c .pairs) ≡ 1 → record-count c ≡ 2
-unfolding record-count weight-count
+unfolding record-count weighting-records
 count-of-none c none one = rw (none, one) (omega arith)
 
 module _ {cert : List ℕ} {at rules : ℕ} {ar ss ns ms : List ℕ} (a : Unweighted-asked cert at rules ar ss ns ms) where
@@ -92,11 +88,11 @@ module _ {cert : List ℕ} {at rules : ℕ} {ar ss ns ms : List ℕ} (a : Unweig
       self-arc = stored-arc-answer p (a .kept .symbols) rules ar ss ns ms s (a .kept .arrays) q q is (pair-in-rules s q is) b (rw reads-pair at answer)
 
       refuses : b ≡ true → Component-judged p c at (Refused SelfArc)
-      unfolding Component-judged
+      unfolding Component-judged answered
       refuses h = rw (number, ← self-arc, h)
 
       passes : b ≡ false → Component-judged p c at (Passed (at + 2))
-      unfolding Component-judged
+      unfolding Component-judged answered
       passes h = rw (number, ← self-arc, h, counted)
 
 -- the record of its pair is there, and names a rule

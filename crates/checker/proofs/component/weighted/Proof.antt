@@ -1,137 +1,138 @@
--- `checker::component::weighted` meets its contract: under the weights of the component before, the rules hold as they did; under
--- others the table is filled anew and all rules are judged by it.
-use mathlib.Core.Path.{_≡_, refl, sym, _∙_}
-use mathlib.Core.List.{List, []}
-use Prim.Native.Nat.{ℕ, _+_, _/_, _≤_, _<_}
+-- `checker::component::weighted` meets its contract. The loop's invariant: the weightings before number `number` have passed, and what is
+-- known then of the others and of the numbers.
+use mathlib.Core.Path.{refl}
+use mathlib.Core.List.{[]}
+use Prim.Native.Nat.{_+_, _-_, _/_, _≤_, _<_}
 use native.Mathlib.Omega.{arith}
 use borrow.Author.Needs.{needs}
 use lib.ListN.{length}
-use Rattle.records.specs.declared.Refusal.the-variants.{Heavy}
-use Rattle.polynomials.specs.Polynomials.{Weighting}
-use Rattle.weights.specs.Table.{Table-is}
-use Rattle.checker.specs.Working.{is-over, rules-verdict, Weights-held, Weights-agree, Same-weights, Weighted-asked}
-use Rattle.checker.proofs.Known.{its-weighting, small, weights-there, still-held, still-hold, calls-there, judged-over, refused-unknown, judged, known-now}
+use Rattle.weights.specs.Table.{Marked-is}
+use Rattle.checker.specs.Working.{Others-as-before, Weighted-asked}
+use Rattle.checker.proofs.Positions.{header-within}
+use Rattle.checker.proofs.Tallies.{none-changed}
+use Rattle.checker.proofs.Known.{refused-unknown}
+use Rattle.checker.proofs.Weightings.{refused-untold, from-small, others-both, So-far, starts, last-told, asked, refuses, goes-on, passes, knows, numbers-tell}
 use Rattle.checker.proofs.component.weighted.Statement.{statement}
 use Rattle.checker.proofs.component.weighted.Tie as tie
 
-abbrev start : tie.After-shared-slice-known2 → tie.Start
-start c = c .before .before
+abbrev Inv-loop : tie.InvT-loop
+Inv-loop certificate at count weightings first before table₀ lefts₀ arities starts nodes rules weights₀ from₀ number₀ table lefts weights from number =
+    (number ≤ weightings)
+    × Marked-is table []
+    × Others-as-before first (first + count) lefts₀ lefts
+    × ((a : Weighted-asked certificate at count weightings first before rules arities starts nodes table₀ lefts₀) → So-far a number from weights table lefts)
 
-small-there : (c : tie.Start) → (c .args .at < length (c .args .certificate .now) / 8) × (c .args .count ≤ 2048)
-small-there c = small (c .pre)
+abbrev μ-loop : tie.MeasureT-loop
+μ-loop certificate at count weightings first before table₀ lefts₀ arities starts nodes rules weights₀ from₀ number₀ table lefts weights from number =
+    weightings - number
 
--- under the weights before
-module _
-    {cert : List ℕ} {at count before rules after : ℕ} {ar ss ns table : List ℕ} (a : Weighted-asked cert at count before rules ar ss ns table)
-    (told : Weights-agree cert before (at + 1 + count) after) where
-  held : Weights-held (a .asked .kept .system) cert before table
-  held = a .known .some (told .earlier)
+-- the start, where its records are among the certificate's and its weightings few
+small : (c : tie.Start Inv-loop μ-loop) → (c .args .at < length (c .args .certificate .now) / 8) × (c .args .count ≤ 2048) × (c .args .weightings ≤ 8)
+small c =
+    let a = c .pre in
+    (header-within (a .there .stands), omega (arith, a .fits .pairs-few, a .counted), omega (arith, a .fits .few, a .weightings-are))
 
-  run : Same-weights (held .held .weights) (its-weighting a .weights) (at + 1 + count) after
-  run = told .agree (held .held .weights) (its-weighting a .weights) (held .held .stand) (weights-there a)
+file-small : (c : tie.Start Inv-loop μ-loop) → length (c .args .certificate .now) ≤ 24576
+file-small c = c .pre .there .file .short
 
-judge-calls-requires : tie.Need-judge-calls-requires
-judge-calls-requires c κs =
-    let same = c .before in
-    let a = start (same .before .before) .pre in
-    let told = same .before .same-weights .ensures (same .if1 .taken) in
-    calls-there a (run a told .passed) (a .unmarked)
+abbrev start : tie.At-loop Inv-loop μ-loop → tie.Start Inv-loop μ-loop
+start l = l .before .before .before
 
-returns : tie.Need-returns
-unfolding is-over
-returns c =
-    let called = c .judge-calls .ensures in
-    let same = c .before .before in
-    let told = same .before .same-weights .ensures (same .if1 .taken) in
-    record {
-      unmarked = called .unmarked;
-      judged = λ a.
-          let r = run a told in
-          judged a (r .passed) (still-hold (held a told) (r .same) (its-weighting a .marked)) (still-held (held a told) (r .same)) _ called refl;
-      known = λ a.
-          let r = run a told in
-          known-now a (r .passed) (still-hold (held a told) (r .same) (its-weighting a .marked)) (still-held (held a told) (r .same)) _ called;
-    }
+-- a turn: its weighting, and what it answered
+abbrev turn-of : tie.After-one-weighting Inv-loop μ-loop → tie.In-loop Inv-loop μ-loop
+turn-of c = c .before .before .before
 
--- under others
-refill-requires : tie.Need-refill-requires
-refill-requires c κs =
-    let a = start (c .before .before .before) .pre in
-    record {
-      file = a .there .file;
-      weights = its-weighting a .weights;
-      stand = weights-there a;
-      none = a .known .none;
-      some = λ h. a .known .some h .held;
-    }
-
--- the verdict on all rules under them, and where it was found
-abbrev refilled : tie.After-judge-rules → tie.After-refill
-refilled c = c .before .before
-
-abbrev begin : tie.After-judge-rules → tie.Start
-begin c = start (refilled c .before .before .before .before)
-
-abbrev Asked : tie.Start → Type 0
+abbrev Asked : tie.Start Inv-loop μ-loop → Type 0
 Asked s =
-    Weighted-asked (s .args .certificate .now) (s .args .at) (s .args .count) (s .args .before) (s .args .rules) (s .args .arities .now) (s .args .starts .now) (s .args .nodes .now) (s .args .table .now)
+    Weighted-asked (s .args .certificate .now) (s .args .at) (s .args .count) (s .args .weightings) (s .args .first) (s .args .before) (s .args .rules) (s .args .arities .now) (s .args .starts .now) (s .args .nodes .now) (s .args .table .now) (s .args .lefts .now)
 
-module _ (c : tie.After-judge-rules) (a : Asked (begin c)) where
-  abbrev w : Weighting
-  w = its-weighting a
+so-far : (l : tie.At-loop Inv-loop μ-loop) (a : Asked (start l)) → So-far a (l .loop .number) (l .loop .from) (l .loop .weights) (l .loop .table) (l .loop .lefts)
+so-far l a = l .loop .inv .3 a
 
-  holds : Table-is (refilled c .refill .last .1 .1 .1 .0) (w .weights)
-  holds = refilled c .refill .ensures .holds (w .weights) (weights-there a)
+requires : tie.Need-one-weighting-requires Inv-loop μ-loop
+requires c κs =
+    let turn = c .before .before in
+    let l = turn .before in
+    asked (start l .pre) (so-far l (start l .pre)) (turn .loop-test .taken) (l .loop .inv .1) _ refl refl
 
-  ends : refilled c .refill .result ≡ begin c .args .at + 1 + begin c .args .count + length (w .weights)
-  ends = refilled c .refill .ensures .ends (w .weights) (weights-there a)
-
-  rules-are : c .judge-rules .result ≡ rules-verdict (a .asked .kept .system) (w .weights) (w .marked)
-  rules-are = c .judge-rules .ensures (a .asked) (w .weights) (w .marked) holds
-
-returns-2 : tie.Need-returns-2
-returns-2 c =
-    let tested = c .before in
-    let judging = tested .before in
-    let over = sym (tested .is-over .ensures) ∙ c .if2 .taken in
+returns : tie.Need-returns Inv-loop μ-loop
+returns c =
+    let called = c .before .before .before in
+    let turn = turn-of called in
+    let l = turn .before in
+    let judged = called .one-weighting .ensures in
+    let stops : (a : Asked (start l)) → _ = λ a.
+    refuses a (so-far l a) (turn .loop-test .taken) (l .loop .inv .1) _ refl refl (last-told a (so-far l a) (turn .loop-test .taken) (l .loop .inv .1)) judged _ (c .before .x .given .1) in
     record {
-      unmarked = refilled judging .refill .ensures .marked-stay [] (begin judging .pre .unmarked);
-      judged = λ a. judged-over a (ends judging a) (rules-are judging a) over;
-      known = λ a. refused-unknown _ _ _ Heavy (judged-over a (ends judging a) (rules-are judging a) over) _ _ _;
+      unmarked = judged .unmarked;
+      others = others-both (l .loop .inv .2) (judged .others);
+      judged = stops;
+      known = λ a. refused-unknown _ _ _ _ (stops a) _ _ _;
+      numbers = λ a h. refused-untold _ _ _ _ (stops a) h;
     }
 
-judge-calls-requires-2 : tie.Need-judge-calls-requires-2
-judge-calls-requires-2 c κs =
-    let judging = c .before .before .before in
-    let a = begin judging .pre in
-    calls-there a (ends judging a) (refilled judging .refill .ensures .marked-stay [] (a .unmarked))
+-- after a turn that passed the next one's facts hold
+abbrev called-of : tie.After-known-told2 Inv-loop μ-loop → tie.After-one-weighting Inv-loop μ-loop
+called-of c = c .before .before .before
 
-returns-3 : tie.Need-returns-3
-returns-3 c =
-    let called = c .judge-calls2 .ensures in
-    let tested = c .before .before in
-    let judging = tested .before .before in
-    let none = sym (tested .before .is-over .ensures) ∙ tested .if2 .left in
+module _ (c : tie.After-known-told2 Inv-loop μ-loop) where
+  abbrev turn : tie.In-loop Inv-loop μ-loop
+  turn = turn-of (called-of c)
+
+  abbrev l : tie.At-loop Inv-loop μ-loop
+  l = turn .before
+
+again : tie.Need-loop-again Inv-loop μ-loop
+again c =
+    let judged = called-of c .one-weighting .ensures in (
+      omega (arith, turn c .loop-test .taken),
+      judged .unmarked,
+      others-both (l c .loop .inv .2) (judged .others),
+      λ a. goes-on a (so-far (l c) a) (turn c .loop-test .taken) (l c .loop .inv .1) _ refl refl (last-told a (so-far (l c) a) (turn c .loop-test .taken) (l c .loop .inv .1))
+          judged _ (c .before .next .given .1),
+    )
+
+ends : tie.Need-returns-2 Inv-loop μ-loop
+ends c =
+    let l = c .before in
+    let all = c .loop-test .left in
     record {
-      unmarked = called .unmarked;
-      judged = λ a. judged a (ends judging a) (rules-are judging a) (holds judging a) _ called none;
-      known = λ a. known-now a (ends judging a) (rules-are judging a) (holds judging a) _ called;
+      unmarked = l .loop .inv .1;
+      others = l .loop .inv .2;
+      judged = λ a. passes a (so-far l a) all _ (let some = so-far l a .after-pairs in omega arith);
+      known = λ a. knows a (so-far l a) all;
+      numbers = λ a h. numbers-tell a (so-far l a) all;
     }
 
 pub weighted-spec : {M : Type 1} → statement M
 weighted-spec =
     tie.close
     (tie.spec
-    (λ c. omega (arith, small-there (start c)))
-    (λ c. omega (arith, small-there (start c)))
-    (λ c κs. omega (arith, start c .pre .known .behind))
-    (λ c. omega (arith, small-there (start (c .before .before))))
-    judge-calls-requires
+    Inv-loop
+    μ-loop
+    (λ c. record { fits = omega (arith, small (c .before .before), file-small (c .before .before)) })
+    (λ c. record { fits = omega (arith, small (c .before .before), file-small (c .before .before)) })
+    (λ c. let begin = c .before .before in (omega arith, begin .pre .unmarked, none-changed _ _ _, λ a. starts a))
+    (λ c. record { fits = omega (arith, c .loop-test .taken, small (start (c .before))) })
+    requires
+    (λ c. search needs)
     returns
-    refill-requires
-    (λ c κs. start (c .before .before .before .before .before) .pre .asked)
-    (λ c κs. search needs)
-    returns-2
-    (λ c. omega (arith, small-there (begin (c .before .before))))
-    judge-calls-requires-2
-    returns-3)
+    (λ c. search needs)
+    (λ c.
+    let s = start (l c) in
+    let judged = called-of c .one-weighting .ensures in
+    record {
+      fits =
+          omega (
+            arith,
+            from-small (s .pre)
+                (goes-on (s .pre) (so-far (l c) (s .pre)) (turn c .loop-test .taken) (l c .loop .inv .1) _ refl refl (last-told (s .pre) (so-far (l c) (s .pre)) (turn c .loop-test .taken) (l c .loop .inv .1))
+                judged _ (c .before .next .given .1)),
+            file-small s,
+          );
+    })
+    (λ c. record { fits = omega (arith, turn c .loop-test .taken, small (start (l c))) })
+    (λ c. omega (arith, turn c .loop-test .taken))
+    again
+    (λ c. let some = so-far (c .before) (start (c .before) .pre) .after-pairs in omega arith)
+    ends)
