@@ -56,12 +56,13 @@ enum teldyzhom_number {
     TELDYZHOM_PAIR_COUNT = 8,      /* a pair stands not at all or twice */
     TELDYZHOM_BACK_ARC = 9,        /* an arc leads to a lower component */
     TELDYZHOM_SELF_ARC = 10,       /* a pair without weights has an arc to itself */
-    TELDYZHOM_HEAVY = 11,          /* a form passes the limit */
+    TELDYZHOM_HEAVY = 11,          /* a form of a rule or of a pair still present passes the limit */
     TELDYZHOM_RULE_RISES = 12,     /* a rule's left is not at least its right */
-    TELDYZHOM_PAIR_STAYS = 13,     /* a pair's left is not greater than its right */
+    TELDYZHOM_PAIR_STAYS = 13,     /* a pair rises under a weighting, or remains after the last */
     TELDYZHOM_SHORT_LIST = 14,     /* the lent list cannot hold all pairs, or the lent buffer the pack of a text */
     TELDYZHOM_BAD_TEXT = 15,       /* a text is outside the grammar or over its limit */
-    TELDYZHOM_TEXT_LIMITS = 16     /* a name of a text has two arities, or a count is over its limit */
+    TELDYZHOM_TEXT_LIMITS = 16,    /* a name of a text has two arities, or a count is over its limit */
+    TELDYZHOM_NONE_LEAVES = 17     /* no pair leaves under a weighting */
 };
 
 /* A refusal's number and 0, or 0 and a value. */
@@ -70,8 +71,8 @@ struct teldyzhom_answer {
     uint32_t value;
 };
 
-/* 0 if the certificate is accepted for the pack, else the first refusal, 1 to 13. Accepted means that all derivations
- * from all terms over the pack's symbols end. */
+/* 0 if the certificate is accepted for the pack, else the first refusal, 1 to 13 or 17. Accepted means that all
+ * derivations from all terms over the pack's symbols end. */
 uint32_t teldyzhom_check(const uint8_t *pack, size_t pack_len, const uint8_t *certificate, size_t certificate_len);
 
 /* Lists the pack's dependency pairs as P records of 8 bytes, rising: number 0 and their count. A refusal (1 to 6, or 14

@@ -11,7 +11,7 @@ pub fn tell(x: Refusal) -> bool {
     match x {
         Refusal::CutFile => say(b"cut file: a length is over its limit or no multiple of 8\n"),
         Refusal::StrayRecord => say(
-            b"stray record: the kind or the file's end stands against the table, byte 1 or an unnamed field is not zero, S, R or C is out of sequence, P, W or M does not rise, or a component without a weighting has more than one pair\n",
+            b"stray record: the kind or the file's end stands against the table, byte 1 or an unnamed field is not zero, S, R, C or L is out of sequence, a weighting is missing or one too many, P, W or M does not rise, or a component without a weighting has more than one pair\n",
         ),
         Refusal::OutOfRange => say(
             b"out of range: a count (a 65th symbol or rule too), arity, symbol, variable, weighting count or weight place is outside its range, or M names a constructor\n",
@@ -25,9 +25,13 @@ pub fn tell(x: Refusal) -> bool {
         Refusal::PairCount => say(b"pair count: a pair stands not at all or twice\n"),
         Refusal::BackArc => say(b"back arc: an arc leads to a lower component\n"),
         Refusal::SelfArc => say(b"self arc: a pair without weights has an arc to itself\n"),
-        Refusal::Heavy => say(b"heavy: a form passes the limit\n"),
+        Refusal::Heavy => say(
+            b"heavy: a form of a rule or of a pair still present passes the limit\n",
+        ),
         Refusal::RuleRises => say(b"rule rises: a rule's left is not at least its right\n"),
-        Refusal::PairStays => say(b"pair stays: a pair's left is not greater than its right\n"),
+        Refusal::PairStays => say(
+            b"pair stays: a pair rises under a weighting, or remains after the last\n",
+        ),
         Refusal::ShortList => say(
             b"short list: the lent list cannot hold all pairs, or the lent buffer the pack of a text\n",
         ),

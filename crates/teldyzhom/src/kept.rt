@@ -2,6 +2,7 @@
 use crate::Checked;
 use pairs::ArcAnswer;
 use records::Answer;
+use records::MOST_RECORDS;
 use terms::MOST_SYMBOLS;
 use terms::NODES_ROOM;
 ghost use mathlib.Core.Path.{_≡_};
@@ -18,7 +19,7 @@ ghost use Rattle.judging.specs.Check.{check-read};
 ghost use Rattle.teldyzhom.specs.Entries.{checked-number};
 ghost use Rattle.teldyzhom.specs.Kept.{Check-asked};
 
-// Checks a certificate that has passed 1: accepted, or the first refusal, 2 to 13.
+// Checks a certificate that has passed 1: accepted, or the first refusal, 2 to 13 or 17.
 pub fn check_kept(
     certificate: &[u8],
     symbols: usize,
@@ -42,6 +43,7 @@ pub fn check_kept(
     ) {
         Answer::Refused(x) => Checked::Refused(x),
         Answer::Passed(components) => {
+            let mut lefts = [0u8; MOST_RECORDS];
             match checker::judge(
                 certificate,
                 components,
@@ -50,6 +52,7 @@ pub fn check_kept(
                 starts,
                 nodes,
                 defined,
+                &mut lefts,
             ) {
                 Answer::Refused(x) => Checked::Refused(x),
                 Answer::Passed(_) => Checked::Accepted,
