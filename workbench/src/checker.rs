@@ -1,6 +1,6 @@
-//! An independent checker, written from document 01 alone.
+//! An independent checker, written from document 01 and document 02's N2 alone.
 //!
-//! Trees, vectors and obvious loops; each function cites the sentence of document 01 it stands for.
+//! Trees, vectors and obvious loops; each function cites the sentence of these documents it stands for.
 //! Speed is no aim here: see `tuned.rs` for the fast one.
 
 use std::collections::BTreeMap;
@@ -21,6 +21,8 @@ pub const ARITY_LIMIT: u16 = 8;
 pub const VARIABLE_LIMIT: u16 = 15;
 /// "pairs, 1 to 2,048"
 pub const PAIR_LIMIT: u16 = 2_048;
+/// "C's b now runs to 8."
+pub const WEIGHTING_LIMIT: u16 = 8;
 /// "Every constant and coefficient of every node's form is at most 4,294,967,295"
 pub const FORM_LIMIT: u64 = 4_294_967_295;
 
@@ -39,6 +41,8 @@ pub const HEAVY: u32 = 11;
 pub const RULE_RISES: u32 = 12;
 pub const PAIR_STAYS: u32 = 13;
 pub const SHORT_LIST: u32 = 14;
+/// "17 for a weighting under which no pair leaves"
+pub const IDLE_WEIGHTING: u32 = 17;
 
 /// "A term over a pack is a variable, or a symbol of the pack with as many terms as its arity."
 #[derive(Clone, Debug, PartialEq, Eq)]
@@ -67,13 +71,24 @@ pub type Pair = (u16, u16);
 /// Values by (symbol, place): "W weight | certificate | symbol | 0 constant, i argument i | value"
 pub type Weights = BTreeMap<(u16, u16), u16>;
 
-/// One C record and what follows it.
+/// The values of one weighting, those of its W and those of its M records.
 #[derive(Clone, Debug, Default, PartialEq, Eq)]
-pub struct Component {
-    pub weighted: bool,
-    pub pairs: Vec<Pair>,
+pub struct Weighting {
     pub plain: Weights,
     pub marked: Weights,
+}
+
+/// One C record and what follows it; without weightings it is a component without weights.
+#[derive(Clone, Debug, Default, PartialEq, Eq)]
+pub struct Component {
+    pub pairs: Vec<Pair>,
+    pub weightings: Vec<Weighting>,
+}
+
+impl Component {
+    pub fn is_weighted(&self) -> bool {
+        !self.weightings.is_empty()
+    }
 }
 
 /// "a constant and a coefficient for each variable, in whole numbers"
@@ -393,7 +408,7 @@ fn may_become(pack: &Pack, u: &Term, v: &Term) -> bool {
 // ---------------------------------------------------------------- the certificate
 
 /// "start of certificate | C, end", and C or the end after each component
-fn read_certificate(file: &[u8], pack: &Pack) -> Result<Vec<Component>, u32> {
+pub fn read_certificate(file: &[u8], pack: &Pack) -> Result<Vec<Component>, u32> {
     let mut reader = Reader { file, offset: 0 };
     let mut components = Vec::new();
     while reader.kind().is_some() {
@@ -403,34 +418,54 @@ fn read_certificate(file: &[u8], pack: &Pack) -> Result<Vec<Component>, u32> {
     Ok(components)
 }
 
-/// "C | P", "P | P while the count lasts; then C, end, and with a weighting W, M", "W | W, M, C, end", "M | M, C, end"
+/// "C | P", "P | P while the count lasts; then C, end", and what the weightings bring between the pairs and that
 fn read_component(reader: &mut Reader, number: usize, pack: &Pack) -> Result<Component, u32> {
-    let (weighted, count) = read_component_head(reader, number)?;
-    let mut component = Component { weighted, ..Component::default() };
+    let (weightings, count) = read_component_head(reader, number)?;
+    let mut component = Component::default();
     for _ in 0..count {
         let pair = read_pair(reader, component.pairs.last().copied(), pack)?;
         component.pairs.push(pair);
     }
-    while weighted && reader.kind() == Some(b'W') {
-        let (place, value) = read_weight(reader, b"W", &component.plain, pack)?;
-        component.plain.insert(place, value);
-    }
-    while weighted && reader.kind() == Some(b'M') {
-        let (place, value) = read_weight(reader, b"M", &component.marked, pack)?;
-        component.marked.insert(place, value);
+    for number in 0..weightings {
+        // "The second and later weightings each begin with a record L"
+        if number > 0 {
+            read_weighting_head(reader, number)?;
+        }
+        component.weightings.push(read_weighting(reader, pack)?);
     }
     Ok(component)
 }
 
-/// "C component | certificate | its number, 0, 1, 2 .. | weightings, 0 or 1 | pairs, 1 to 2,048"
-fn read_component_head(reader: &mut Reader, number: usize) -> Result<(bool, u16), u32> {
+/// "C component | certificate | its number, 0, 1, 2 .. | weightings | pairs, 1 to 2,048", and "C's b now runs to 8."
+fn read_component_head(reader: &mut Reader, number: usize) -> Result<(u16, u16), u32> {
     let record = reader.take(b"C")?;
     demand(usize::from(record.a) == number, STRAY_RECORD)?;
     // "a second pair in a component without a weighting is met at its C"
     demand(record.b != 0 || record.c <= 1, STRAY_RECORD)?;
-    demand(record.b <= 1, OUT_OF_RANGE)?;
+    demand(record.b <= WEIGHTING_LIMIT, OUT_OF_RANGE)?;
     demand((1..=PAIR_LIMIT).contains(&record.c), OUT_OF_RANGE)?;
-    Ok((record.b == 1, record.c))
+    Ok((record.b, record.c))
+}
+
+/// "a record L, whose a is its number from 1", "L may follow P, W, M or L", "one missing, too many or out of sequence is 2"
+fn read_weighting_head(reader: &mut Reader, number: u16) -> Result<(), u32> {
+    let record = reader.take(b"L")?;
+    demand(record.b == 0 && record.c == 0, STRAY_RECORD)?;
+    demand(record.a == number, STRAY_RECORD)
+}
+
+/// "its W and M follow and rise afresh", and after L "may stand what may after W"
+fn read_weighting(reader: &mut Reader, pack: &Pack) -> Result<Weighting, u32> {
+    let mut weighting = Weighting::default();
+    while reader.kind() == Some(b'W') {
+        let (place, value) = read_weight(reader, b"W", &weighting.plain, pack)?;
+        weighting.plain.insert(place, value);
+    }
+    while reader.kind() == Some(b'M') {
+        let (place, value) = read_weight(reader, b"M", &weighting.marked, pack)?;
+        weighting.marked.insert(place, value);
+    }
+    Ok(weighting)
 }
 
 /// "P records of one component rise by (rule, place)", then "a P names no pair of the pack"
@@ -480,10 +515,10 @@ fn judge_back_arcs(pack: &Pack, components: &[Component]) -> Result<(), u32> {
     Ok(())
 }
 
-/// "then each component in turn: 10, or 11 over all rules and its pairs, then 12, then 13"
+/// "then each component in turn: 10, or 11 over all rules and its pairs, then 12, then 13", now "weighting by weighting"
 fn judge_component(pack: &Pack, component: &Component) -> Result<(), u32> {
-    if component.weighted {
-        judge_weights(pack, component)
+    if component.is_weighted() {
+        judge_weightings(pack, component)
     } else {
         judge_self_arc(pack, component)
     }
@@ -495,25 +530,45 @@ fn judge_self_arc(pack: &Pack, component: &Component) -> Result<(), u32> {
     demand(!itself, SELF_ARC)
 }
 
-/// "In a component with one, every rule's left is at least its right, and every pair's left is greater than its right."
-fn judge_weights(pack: &Pack, component: &Component) -> Result<(), u32> {
-    let rules = rule_forms(pack, component)?;
-    let pairs = pair_forms(pack, component)?;
-    demand(rules.iter().all(|(left, right)| at_least(left, right)), RULE_RISES)?;
-    demand(pairs.iter().all(|(left, right)| greater(left, right)), PAIR_STAYS)
+/// "pairs that fall leave. None may remain after the last."
+fn judge_weightings(pack: &Pack, component: &Component) -> Result<(), u32> {
+    let mut present = component.pairs.clone();
+    for (weighting, number) in component.weightings.iter().zip(1..) {
+        let last = number == component.weightings.len();
+        present = judge_weighting(pack, weighting, &present, last)?;
+    }
+    Ok(())
 }
 
-/// The forms of both sides of all rules under this component's plain weights.
-fn rule_forms(pack: &Pack, component: &Component) -> Result<Vec<(Form, Form)>, u32> {
-    let side = |term: &Term| form(term, &component.plain);
+/// "after its 11 and 12: 13, now a pair that rises, or one that remains after the last; then 17 for a weighting under
+/// which no pair leaves"; answers the pairs that remain.
+fn judge_weighting(pack: &Pack, weighting: &Weighting, present: &[Pair], last: bool) -> Result<Vec<Pair>, u32> {
+    let rules = rule_forms(pack, weighting)?;
+    let pairs = pair_forms(pack, weighting, present)?;
+    demand(rules.iter().all(|(left, right)| at_least(left, right)), RULE_RISES)?;
+    demand(pairs.iter().all(|(left, right)| at_least(left, right)), PAIR_STAYS)?;
+    let mut remaining = Vec::new();
+    for (pair, (left, right)) in present.iter().zip(&pairs) {
+        if !greater(left, right) {
+            remaining.push(*pair);
+        }
+    }
+    demand(!last || remaining.is_empty(), PAIR_STAYS)?;
+    demand(remaining.len() < present.len(), IDLE_WEIGHTING)?;
+    Ok(remaining)
+}
+
+/// "all rules .. must have a left at least the right": the forms of their sides under this weighting's plain weights.
+fn rule_forms(pack: &Pack, weighting: &Weighting) -> Result<Vec<(Form, Form)>, u32> {
+    let side = |term: &Term| form(term, &weighting.plain);
     pack.rules.iter().map(|rule| Ok((side(&rule.left)?, side(&rule.right)?))).collect()
 }
 
-/// The forms of both sides of this component's pairs, "both with marked roots".
-fn pair_forms(pack: &Pack, component: &Component) -> Result<Vec<(Form, Form)>, u32> {
-    let side = |term: &Term| marked_form(term, component);
+/// "11 looks at pairs still present": the forms of their sides, "both with marked roots".
+fn pair_forms(pack: &Pack, weighting: &Weighting, present: &[Pair]) -> Result<Vec<(Form, Form)>, u32> {
+    let side = |term: &Term| marked_form(term, weighting);
     let both = |pair: &Pair| Ok((side(pair_left(pack, *pair))?, side(pair_right(pack, *pair))?));
-    component.pairs.iter().map(both).collect()
+    present.iter().map(both).collect()
 }
 
 // ---------------------------------------------------------------- forms
@@ -527,10 +582,10 @@ pub fn form(term: &Term, plain: &Weights) -> Result<Form, u32> {
 }
 
 /// The form of a pair's side: its root has the marked weights, all below it the plain ones.
-pub fn marked_form(term: &Term, component: &Component) -> Result<Form, u32> {
+pub fn marked_form(term: &Term, weighting: &Weighting) -> Result<Form, u32> {
     match term {
-        Term::Variable(_) => form(term, &component.plain),
-        Term::Apply(symbol, arguments) => applied_form(*symbol, &component.marked, arguments, &component.plain),
+        Term::Variable(_) => form(term, &weighting.plain),
+        Term::Apply(symbol, arguments) => applied_form(*symbol, &weighting.marked, arguments, &weighting.plain),
     }
 }
 

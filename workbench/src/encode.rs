@@ -1,6 +1,6 @@
 //! From packs and certificates to their bytes; judges nothing, so that wrong files can be written too.
 
-use crate::checker::{Component, Pack, Rule, Term};
+use crate::checker::{Component, Pack, Rule, Term, Weighting};
 
 /// One record of 8 bytes.
 pub fn record(kind: u8, a: u16, b: u16, c: u16) -> [u8; 8] {
@@ -62,14 +62,28 @@ pub fn certificate_bytes(components: &[Component]) -> Vec<u8> {
 
 /// A C record and what follows it.
 pub fn component_bytes(number: u16, component: &Component) -> Vec<u8> {
-    let mut bytes = record(b'C', number, u16::from(component.weighted), field(component.pairs.len())).to_vec();
+    let weightings = field(component.weightings.len());
+    let mut bytes = record(b'C', number, weightings, field(component.pairs.len())).to_vec();
     for (rule, place) in &component.pairs {
         bytes.extend(record(b'P', *rule, *place, 0));
     }
-    for ((symbol, place), value) in &component.plain {
+    for (number, weighting) in component.weightings.iter().enumerate() {
+        // The first begins without a record of its own.
+        if number > 0 {
+            bytes.extend(record(b'L', field(number), 0, 0));
+        }
+        bytes.extend(weighting_bytes(weighting));
+    }
+    bytes
+}
+
+/// The W and M records of one weighting.
+fn weighting_bytes(weighting: &Weighting) -> Vec<u8> {
+    let mut bytes = Vec::new();
+    for ((symbol, place), value) in &weighting.plain {
         bytes.extend(record(b'W', *symbol, *place, *value));
     }
-    for ((symbol, place), value) in &component.marked {
+    for ((symbol, place), value) in &weighting.marked {
         bytes.extend(record(b'M', *symbol, *place, *value));
     }
     bytes

@@ -1,9 +1,11 @@
 //! Seeded cases: packs, certificates, list rooms, arc questions and solvers' texts of all kinds and sizes.
 
+pub mod lexicographic;
 pub mod limits;
 pub mod packs;
 pub mod spoil;
 pub mod texts;
+pub mod weightings;
 
 use crate::checker::{judge_pack, pairs, root, Pack, Pair};
 use crate::encode::{certificate_bytes, pack_bytes};
@@ -27,14 +29,18 @@ pub fn case(seed: u64) -> Case {
     // Seeds in a row shall not share their first numbers.
     random = Random::new(random.bits() ^ seed.rotate_left(32));
     let random = &mut random;
-    let (mut base, mut kept) = some_base(random);
+    let (mut base, mut family) = some_base(random);
     // Packs without pairs say little about certificates: they are kept rare.
     for _ in 0..4 {
         if base.components.is_empty() && random.chance(90) {
-            (base, kept) = some_base(random);
+            (base, family) = some_base(random);
         }
     }
-    let (mut pack, mut certificate) = if random.chance(kept) { files(&base) } else { spoilt_files(random, &mut base) };
+    let (mut pack, mut certificate) = match family {
+        _ if random.chance(family.kept()) => files(&base),
+        Family::SeveralWeightings => spoilt_weightings(random, &mut base),
+        Family::Usual | Family::NearLimit => spoilt_files(random, &mut base),
+    };
     // No room behind the last byte, so that a memory checker sees every read past it.
     pack.shrink_to_fit();
     certificate.shrink_to_fit();
@@ -44,13 +50,34 @@ pub fn case(seed: u64) -> Case {
     Case { pack, certificate, room, questions, texts }
 }
 
-/// Percent of the bases that are left as they are made.
-const KEPT: usize = 15;
-/// The same for those near the limit of forms: nearly all spoils would bring them away from it.
-const KEPT_NEAR_LIMIT: usize = 75;
+/// What a base is made for, which says how it is spoilt.
+#[derive(Clone, Copy)]
+enum Family {
+    Usual,
+    NearLimit,
+    SeveralWeightings,
+}
 
-/// A base of a size by chance, and the percent of its kind that are kept; great ones are rare, as they take long.
-fn some_base(random: &mut Random) -> (Base, usize) {
+impl Family {
+    /// Percent of the bases that are left as they are made.
+    fn kept(self) -> usize {
+        match self {
+            Family::Usual => 4,
+            // Nearly all spoils would bring them away from the limit of forms.
+            Family::NearLimit => 75,
+            Family::SeveralWeightings => 30,
+        }
+    }
+}
+
+/// Percent of the bases that are made for several weightings.
+const SEVERAL: usize = 15;
+
+/// A base of a size by chance; great ones are rare, as they take long.
+fn some_base(random: &mut Random) -> (Base, Family) {
+    if random.chance(SEVERAL) {
+        return (several_base(random), Family::SeveralWeightings);
+    }
     let base = match random.below(1_000) {
         0..=234 => packs::guided(random, Size::Tiny),
         235..=601 => packs::guided(random, Size::Small),
@@ -58,13 +85,46 @@ fn some_base(random: &mut Random) -> (Base, usize) {
         832..=843 => packs::guided(random, Size::Large),
         844..=846 => packs::guided(random, Size::Limit),
         847 => dense_base(random),
-        848..=930 => return (limits::near_limit(random), KEPT_NEAR_LIMIT),
+        848..=930 => return (limits::near_limit(random), Family::NearLimit),
         931..=960 => packs::unguided(random, Size::Tiny),
         961..=995 => packs::unguided(random, Size::Small),
         996..=997 => packs::unguided(random, Size::Typical),
         _ => Base { pack: Pack::default(), components: Vec::new() },
     };
-    (base, KEPT)
+    (base, Family::Usual)
+}
+
+/// Pairs that leave in lexicographic order, the most pairs under two weightings, or a usual pack whose components are
+/// parted.
+fn several_base(random: &mut Random) -> Base {
+    let size = match random.below(1_000) {
+        0..=699 => return lexicographic::lexicographic(random),
+        700..=703 => return packs::dense_in_two(random, 1),
+        704..=706 => Size::Large,
+        707..=800 => Size::Typical,
+        _ => Size::Small,
+    };
+    let mut base = packs::guided(random, size);
+    let most = random.range(2, 8);
+    weightings::split(random, &mut base, most);
+    base
+}
+
+/// Weightings or the records that begin them are spoilt, or the files as others are.
+fn spoilt_weightings(random: &mut Random, base: &mut Base) -> (Vec<u8>, Vec<u8>) {
+    match random.below(100) {
+        0..=44 => {
+            weightings::spoil_weightings(random, base);
+            files(base)
+        }
+        45..=79 => {
+            let (pack, mut certificate) = files(base);
+            let way = *random.pick(&weightings::WAYS);
+            weightings::spoil_records(random, &mut certificate, way);
+            (pack, certificate)
+        }
+        _ => spoilt_files(random, base),
+    }
 }
 
 /// Weights, records or bytes are spoilt.

@@ -1,8 +1,11 @@
 //! A little search for certificates: groups of the arc graph in order, small weights by local search.
 //!
+//! One weighting for a group is tried first; where none is found, several under which its pairs leave one after the other.
 //! Finding weights is no part of the loader; this only serves the examples.
 
-use crate::checker::{pair_left, pair_right, root, subterms, Component, Pack, Pair, Term, Weights};
+use crate::checker::{pair_left, pair_right, root, subterms};
+use crate::checker::{Component, Pack, Pair, Term, Weighting, Weights, WEIGHTING_LIMIT};
+use crate::generate::packs::falls_under;
 use crate::graph::graph;
 use crate::random::Random;
 
@@ -25,30 +28,83 @@ pub fn certificate(pack: &Pack, effort: Effort) -> Result<Vec<Component>, Vec<Pa
             found.push(Component { pairs, ..Component::default() });
             continue;
         }
-        let component = weights_for(&mut random, pack, &pairs, &found, effort);
-        found.push(component.ok_or(pairs)?);
+        let known: Vec<Weights> =
+            found.iter().flat_map(|component| &component.weightings).map(|weighting| weighting.plain.clone()).collect();
+        let one = one_weighting(&mut random, pack, &pairs, &known, effort).map(|weighting| vec![weighting]);
+        let weightings = one.or_else(|| several_weightings(&mut random, pack, &pairs, known, effort));
+        match weightings {
+            Some(weightings) => found.push(Component { pairs, weightings }),
+            None => return Err(pairs),
+        }
     }
     Ok(found)
 }
 
-/// Tries the plain weights of components before, then starts afresh.
-fn weights_for(
+/// So many restarts where the plain weights are known and only the marked ones are looked for.
+const KNOWN_RESTARTS: usize = 5;
+
+/// All pairs fall: tries the plain weights known, then starts afresh.
+fn one_weighting(
     random: &mut Random,
     pack: &Pack,
     pairs: &[Pair],
-    found: &[Component],
+    known: &[Weights],
     effort: Effort,
-) -> Option<Component> {
-    for before in found.iter().filter(|component| component.weighted) {
+) -> Option<Weighting> {
+    for plain in known {
         let mut problem = Problem::new(pack, pairs);
-        problem.weights.plain = before.plain.clone();
-        problem.keep_plain();
-        if problem.solve(random, 5, effort.steps, effort.greatest) {
+        problem.keep_plain(plain);
+        if problem.solve(random, KNOWN_RESTARTS, effort.steps, effort.greatest) {
             return Some(problem.tidy());
         }
     }
     let mut problem = Problem::new(pack, pairs);
     problem.solve(random, effort.restarts, effort.steps, effort.greatest).then(|| problem.tidy())
+}
+
+/// Weightings under which some pairs fall and leave, until none is left.
+fn several_weightings(
+    random: &mut Random,
+    pack: &Pack,
+    pairs: &[Pair],
+    mut known: Vec<Weights>,
+    effort: Effort,
+) -> Option<Vec<Weighting>> {
+    let mut present = pairs.to_vec();
+    let mut weightings = Vec::new();
+    while !present.is_empty() && weightings.len() < usize::from(WEIGHTING_LIMIT) {
+        let weighting = next_weighting(random, pack, &present, &known, effort)?;
+        present.retain(|pair| !falls_under(pack, *pair, &weighting));
+        known.push(weighting.plain.clone());
+        weightings.push(weighting);
+    }
+    present.is_empty().then_some(weightings)
+}
+
+/// No pair rises and one of them falls, each tried in turn: with the plain weights known, then afresh.
+fn next_weighting(
+    random: &mut Random,
+    pack: &Pack,
+    present: &[Pair],
+    known: &[Weights],
+    effort: Effort,
+) -> Option<Weighting> {
+    for plain in known {
+        for falling in present {
+            let mut problem = Problem::with_one_falling(pack, present, *falling);
+            problem.keep_plain(plain);
+            if problem.solve(random, KNOWN_RESTARTS, effort.steps, effort.greatest) {
+                return Some(problem.keep_falling().tidy());
+            }
+        }
+    }
+    for falling in present {
+        let mut problem = Problem::with_one_falling(pack, present, *falling);
+        if problem.solve(random, effort.restarts, effort.steps, effort.greatest) {
+            return Some(problem.keep_falling().tidy());
+        }
+    }
+    None
 }
 
 /// One weight to choose.
@@ -59,32 +115,36 @@ struct Key {
     place: u16,
 }
 
-/// left is to be at least right, or greater with marked roots.
+/// left is to be at least right, or greater; with marked roots if it is a pair.
 struct Demand<'a> {
     left: &'a Term,
     right: &'a Term,
     marked: bool,
+    strict: bool,
     keys: Vec<Key>,
 }
 
 struct Problem<'a> {
     demands: Vec<Demand<'a>>,
     keys: Vec<Key>,
-    weights: Component,
+    weights: Weighting,
 }
 
 impl<'a> Problem<'a> {
+    /// All pairs are to fall.
     fn new(pack: &'a Pack, pairs: &[Pair]) -> Problem<'a> {
         let rule = |rule: &'a crate::checker::Rule| Demand {
             left: &rule.left,
             right: &rule.right,
             marked: false,
+            strict: false,
             keys: vec![],
         };
         let pair = |pair: &Pair| Demand {
             left: pair_left(pack, *pair),
             right: pair_right(pack, *pair),
             marked: true,
+            strict: true,
             keys: vec![],
         };
         let mut demands: Vec<Demand> = pack.rules.iter().map(rule).chain(pairs.iter().map(pair)).collect();
@@ -102,12 +162,31 @@ impl<'a> Problem<'a> {
             let touching = |key: &&Key| touches(demand.left, demand.right, demand.marked, **key);
             demand.keys = keys.iter().filter(touching).copied().collect();
         }
-        let weights = Component { weighted: true, pairs: pairs.to_vec(), ..Component::default() };
-        Problem { demands, keys, weights }
+        Problem { demands, keys, weights: Weighting::default() }
     }
 
-    /// Only the marked weights may still change.
-    fn keep_plain(&mut self) {
+    /// This pair is to fall, and no other is to rise.
+    fn with_one_falling(pack: &'a Pack, pairs: &[Pair], falling: Pair) -> Problem<'a> {
+        let mut problem = Problem::new(pack, pairs);
+        for (demand, pair) in problem.demands.iter_mut().skip(pack.rules.len()).zip(pairs) {
+            demand.strict = *pair == falling;
+        }
+        problem
+    }
+
+    /// What falls now shall go on falling when the weights are lowered.
+    fn keep_falling(mut self) -> Problem<'a> {
+        let falls: Vec<bool> =
+            self.demands.iter().map(|demand| demand.marked && self.miss_by(demand, 1) == 0).collect();
+        for (demand, falls) in self.demands.iter_mut().zip(falls) {
+            demand.strict = falls;
+        }
+        self
+    }
+
+    /// These plain weights stay; only the marked ones may still change.
+    fn keep_plain(&mut self, plain: &Weights) {
+        self.weights.plain = plain.clone();
         self.keys.retain(|key| key.marked);
         for demand in &mut self.demands {
             demand.keys.retain(|key| key.marked);
@@ -187,10 +266,15 @@ impl<'a> Problem<'a> {
 
     /// By how much a demand is broken; each part counts little, so that no single one rules.
     fn miss(&self, demand: &Demand) -> u64 {
+        self.miss_by(demand, i64::from(demand.strict))
+    }
+
+    /// The same, where the left's constant is to be so much greater.
+    fn miss_by(&self, demand: &Demand, fall: i64) -> u64 {
         let mut form = [0i64; 17];
         self.add(demand.left, 1, demand.marked, &mut form);
         self.add(demand.right, -1, demand.marked, &mut form);
-        form[16] -= i64::from(demand.marked);
+        form[16] -= fall;
         form.iter().map(|value| if *value < 0 { 1 + value.unsigned_abs().min(8) } else { 0 }).sum()
     }
 
@@ -212,7 +296,7 @@ impl<'a> Problem<'a> {
     }
 
     /// Lowers every weight as far as all demands still hold.
-    fn tidy(mut self) -> Component {
+    fn tidy(mut self) -> Weighting {
         for key in self.keys.clone() {
             let value = self.get(key);
             let least = (0..value).find(|lower| {

@@ -1,6 +1,7 @@
 //! The slowest accepted files known, for the benchmark: many arc questions, many weights; and the deepest ones.
 
-use crate::checker::{pairs, Component, Pack, Pair, Rule, Term, HEAVY, NODE_LIMIT, PAIR_STAYS, RULE_RISES};
+use crate::checker::{pairs, Component, Pack, Pair, Rule, Term, Weighting, Weights};
+use crate::checker::{HEAVY, NODE_LIMIT, PAIR_STAYS, RULE_RISES, WEIGHTING_LIMIT};
 use crate::generate::packs::Base;
 
 fn apply(symbol: u16, arguments: Vec<Term>) -> Term {
@@ -95,8 +96,13 @@ fn sum_of(variables: usize, deep: usize) -> Term {
 
 /// Plain weights as told, and the marked f its argument.
 fn component(plain: &[(u16, u16, u16)]) -> Component {
+    with_marks(plain, [((1, 1), 1)].into())
+}
+
+/// Plain weights as told, and these marked ones.
+fn with_marks(plain: &[(u16, u16, u16)], marked: Weights) -> Component {
     let plain = plain.iter().map(|(symbol, place, value)| ((*symbol, *place), *value)).collect();
-    Component { weighted: true, pairs: Vec::new(), plain, marked: [((1, 1), 1)].into() }
+    Component { pairs: Vec::new(), weightings: vec![Weighting { plain, marked }] }
 }
 
 /// 64 times the rule, its pairs dealt out to that many components as evenly as may be.
@@ -109,6 +115,38 @@ fn weighted(arities: Vec<u16>, rule: Rule, count: usize, weights: impl Fn(usize)
         components[index * shares / pairs.len()].pairs.push(*pair);
     }
     Base { pack, components }
+}
+
+// ---------------------------------------------------------------- weightings
+
+/// The functions of the pack below, and so the most weightings under each of which a pair leaves.
+const FUNCTIONS: usize = WEIGHTING_LIMIT as usize;
+
+/// An ordinary pack: eight functions like plus, their pairs in one component with so many weightings, one to eight. No
+/// two in a row have the same plain weights. Symbols: 0 zero, 1 s, then the functions.
+pub fn weightings(count: usize) -> Base {
+    let functions = 2..2 + FUNCTIONS as u16;
+    let rules = functions.clone().flat_map(plus_rules).collect();
+    let pack = Pack { arities: [vec![0, 1], vec![2; FUNCTIONS]].concat(), rules };
+    let weighting = |number: usize| {
+        let mut plain: Weights = [((1, 0), 1 + (number % 2) as u16), ((1, 1), 1)].into();
+        plain.extend(functions.clone().flat_map(|function| [((function, 1), 1), ((function, 2), 1)]));
+        // Each counts its share of the functions, whose pairs then leave.
+        let own = functions.clone().filter(|function| usize::from(function - 2) * count / FUNCTIONS == number);
+        Weighting { plain, marked: own.map(|function| ((function, 1), 1)).collect() }
+    };
+    let component = Component { pairs: pairs(&pack), weightings: (0..count).map(weighting).collect() };
+    Base { pack, components: vec![component] }
+}
+
+/// f(zero, y) -> y and f(s(x), y) -> s(f(x, y))
+fn plus_rules(function: u16) -> [Rule; 2] {
+    let (x, y) = (Term::Variable(0), Term::Variable(1));
+    let sum = apply(function, vec![x.clone(), y.clone()]);
+    [
+        Rule { left: apply(function, vec![apply(0, vec![]), y.clone()]), right: y.clone() },
+        Rule { left: apply(function, vec![apply(1, vec![x]), y]), right: apply(1, vec![sum]) },
+    ]
 }
 
 // ---------------------------------------------------------------- depth
@@ -143,7 +181,7 @@ pub fn deep() -> Vec<Deep> {
 fn deep_in(width: u16, leaf: &Term) -> Vec<Deep> {
     let side = apply(1, vec![nested(width, NODES - 1, leaf)]);
     let rule = Rule { left: side.clone(), right: side };
-    let heavy_root = Component { marked: [((1, 1), GREATEST)].into(), ..component(&[(0, 0, GREATEST), (0, width, 1)]) };
+    let heavy_root = with_marks(&[(0, 0, GREATEST), (0, width, 1)], [((1, 1), GREATEST)].into());
     vec![
         deep_file("pair stays", width, leaf, &rule, component(&[]), PAIR_STAYS),
         deep_file("equal sides", width, leaf, &rule, component(&[(0, 0, 1), (0, width, 1), (1, 1, 1)]), PAIR_STAYS),

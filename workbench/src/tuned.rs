@@ -5,6 +5,7 @@
 //! (each node's factor is its parent's factor times one weight), and the limit is one backward pass
 //! with a single number a node: the form's value where every variable is 1, which bounds all its parts.
 //! Only where that bound passes the limit is the form itself looked at.
+//! Of a component with several weightings the pairs still present are kept as a list that only shrinks.
 
 use std::cell::RefCell;
 
@@ -23,10 +24,23 @@ const NO_WEIGHT: u16 = 1_023;
 const CONSTANT: usize = 16;
 const SLOTS: usize = 17;
 const NODES: usize = 4_096;
+/// The most pairs of a component, and the most weightings.
+const PAIRS: usize = 2_048;
+const WEIGHTINGS: u16 = 8;
 const NO_RULE: u8 = 255;
 const LIMIT: u64 = u32::MAX as u64;
 
 type Form = [i64; SLOTS];
+
+/// The left of the pair in hand: pairs of one rule stand together and share it.
+struct Left {
+    rule: usize,
+    form: Form,
+}
+
+impl Left {
+    const NONE: Left = Left { rule: usize::MAX, form: [0; SLOTS] };
+}
 
 /// Everything a check needs; nothing of it is trusted from one check to the next.
 struct Workspace {
@@ -52,6 +66,8 @@ struct Workspace {
     first_rule: [u8; 64],
     next_rule: [u8; 64],
     weights: [u32; CELLS],
+    /// The records of the pairs that have not left yet, where a component has several weightings.
+    present: [u64; PAIRS],
 }
 
 thread_local! {
@@ -144,6 +160,7 @@ impl Workspace {
             first_rule: [0; 64],
             next_rule: [0; 64],
             weights: [0; CELLS],
+            present: [0; PAIRS],
         };
         // A variable stands for 1 × itself, under the same reading as a symbol's constant.
         for code in VARIABLE..80 {
@@ -381,13 +398,14 @@ impl Workspace {
             if weightings == 0 && count > 1 {
                 return Err(2);
             }
-            if weightings > 1 || count.wrapping_sub(1) >= 2_048 {
+            if weightings > WEIGHTINGS || usize::from(count.wrapping_sub(1)) >= PAIRS {
                 return Err(3);
             }
             at += 1;
             twice |= self.read_pairs(records, at, usize::from(count), number)?;
             at += usize::from(count);
-            if weightings == 1 {
+            for weighting in 0..weightings {
+                at = read_weighting_head(records, at, weighting)?;
                 at = self.read_weights(records, at, b'W', u64::MAX)?;
                 at = self.read_weights(records, at, b'M', self.defined)?;
             }
@@ -482,20 +500,38 @@ impl Workspace {
             let pairs_end = at + 1 + usize::from(c_of(head));
             let pairs = &records[at + 1..pairs_end];
             at = pairs_end;
-            if b_of(head) == 0 {
-                self.judge_self_arc(word(&pairs[0]))?;
-                continue;
+            match b_of(head) {
+                0 => self.judge_self_arc(word(&pairs[0]))?,
+                1 => {
+                    let rises = self.judge_rules(records, &mut at, &mut judged)?;
+                    self.judge_only_weighting(pairs, rises)?;
+                }
+                weightings => at = self.judge_several(records, at, pairs, weightings, &mut judged)?,
             }
-            let plain = run_of(&records[at..], b'W');
-            at += plain.len();
-            let marked = run_of(&records[at..], b'M');
-            at += marked.len();
-            // The rules were judged under these very weights and passed.
-            let known = judged == Some(plain);
-            judged = Some(plain);
-            self.judge_weights(pairs, plain, marked, known)?;
         }
         Ok(())
+    }
+
+    /// All weightings of one component; answers where it ends.
+    #[inline(never)]
+    fn judge_several<'a>(
+        &mut self,
+        records: &'a [[u8; 8]],
+        mut at: usize,
+        pairs: &[[u8; 8]],
+        weightings: u16,
+        judged: &mut Option<&'a [[u8; 8]]>,
+    ) -> Result<usize, u32> {
+        for (present, record) in self.present.iter_mut().zip(pairs) {
+            *present = word(record);
+        }
+        let mut left = pairs.len();
+        for weighting in 0..weightings {
+            at += usize::from(weighting > 0);
+            let rises = self.judge_rules(records, &mut at, judged)?;
+            left = self.judge_weighting(left, rises, weighting + 1 == weightings)?;
+        }
+        Ok(at)
     }
 
     fn judge_self_arc(&self, word: u64) -> Result<(), u32> {
@@ -507,21 +543,33 @@ impl Workspace {
         Ok(())
     }
 
-    fn judge_weights(
+    /// Loads the weights that stand here and goes behind them; answers whether a rule rises.
+    #[inline(always)]
+    fn judge_rules<'a>(
         &mut self,
-        pairs: &[[u8; 8]],
-        plain: &[[u8; 8]],
-        marked: &[[u8; 8]],
-        known: bool,
-    ) -> Result<(), u32> {
-        let mut rises = false;
+        records: &'a [[u8; 8]],
+        at: &mut usize,
+        judged: &mut Option<&'a [[u8; 8]]>,
+    ) -> Result<bool, u32> {
+        let plain = run_of(&records[*at..], b'W');
+        *at += plain.len();
+        let marked = run_of(&records[*at..], b'M');
+        *at += marked.len();
         self.load(marked, MARKED);
-        if !known {
-            self.load(plain, 0);
-            for rule in 0..self.rules {
-                rises |= self.judge_rule(rule)?;
-            }
+        // The rules were judged under these very weights and passed.
+        if judged.replace(plain) == Some(plain) {
+            return Ok(false);
         }
+        self.load(plain, 0);
+        let mut rises = false;
+        for rule in 0..self.rules {
+            rises |= self.judge_rule(rule)?;
+        }
+        Ok(rises)
+    }
+
+    #[inline(always)]
+    fn judge_only_weighting(&self, pairs: &[[u8; 8]], rises: bool) -> Result<(), u32> {
         let stays = self.judge_pairs(pairs)?;
         if rises {
             return Err(12);
@@ -530,6 +578,31 @@ impl Workspace {
             return Err(13);
         }
         Ok(())
+    }
+
+    /// One weighting of several over the first `count` of the list; answers how many remain there.
+    fn judge_weighting(&mut self, count: usize, rises: bool, last: bool) -> Result<usize, u32> {
+        let mut left = Left::NONE;
+        let mut pair_rises = false;
+        let mut remaining = 0;
+        for index in 0..count {
+            let word = self.present[index];
+            let difference = self.difference(word, &mut left)?;
+            pair_rises |= any_below_zero(&difference);
+            // A place that is not behind the one just read.
+            self.present[remaining] = word;
+            remaining += usize::from(difference[CONSTANT] <= 0);
+        }
+        if rises {
+            return Err(12);
+        }
+        if pair_rises || last && remaining > 0 {
+            return Err(13);
+        }
+        if remaining == count {
+            return Err(17);
+        }
+        Ok(remaining)
     }
 
     fn load(&mut self, records: &[[u8; 8]], base: usize) {
@@ -549,7 +622,7 @@ impl Workspace {
         let mut difference = [0; SLOTS];
         self.add_form(start, 0, 1, &mut difference);
         self.add_form(middle, 0, -1, &mut difference);
-        Ok(difference.iter().fold(0, |signs, value| signs | value) < 0)
+        Ok(any_below_zero(&difference))
     }
 
     /// Every node's value where all variables are 1, cut off at the limit.
@@ -610,26 +683,29 @@ impl Workspace {
     /// Err(11) if a marked root passes the limit, else whether some pair stays.
     fn judge_pairs(&self, pairs: &[[u8; 8]]) -> Result<bool, u32> {
         let mut stays = false;
-        let mut rule = usize::MAX;
-        let mut left = [0; SLOTS];
+        let mut left = Left::NONE;
         for record in pairs {
-            let word = word(record);
-            // Pairs of one rule stand together and share their left.
-            if usize::from(a_of(word)) != rule {
-                rule = usize::from(a_of(word));
-                left = [0; SLOTS];
-                let root = usize::from(self.left[rule & 63]);
-                self.bound_marked(root)?;
-                self.add_form(root, MARKED, 1, &mut left);
-            }
-            let node = self.pair_node(word);
-            self.bound_marked(node)?;
-            let mut difference = left;
-            self.add_form(node, MARKED, -1, &mut difference);
-            let signs = difference.iter().fold(0, |signs, value| signs | value);
-            stays |= signs < 0 || difference[CONSTANT] == 0;
+            let difference = self.difference(word(record), &mut left)?;
+            stays |= any_below_zero(&difference) || difference[CONSTANT] == 0;
         }
         Ok(stays)
+    }
+
+    /// The pair's left less its right, or Err(11) if a marked root passes the limit.
+    #[inline(always)]
+    fn difference(&self, word: u64, left: &mut Left) -> Result<Form, u32> {
+        let rule = usize::from(a_of(word));
+        if rule != left.rule {
+            *left = Left { rule, ..Left::NONE };
+            let root = usize::from(self.left[rule & 63]);
+            self.bound_marked(root)?;
+            self.add_form(root, MARKED, 1, &mut left.form);
+        }
+        let node = self.pair_node(word);
+        self.bound_marked(node)?;
+        let mut difference = left.form;
+        self.add_form(node, MARKED, -1, &mut difference);
+        Ok(difference)
     }
 
     /// The limit for a marked root, over its arguments' bounds.
@@ -647,6 +723,25 @@ impl Workspace {
             return Err(11);
         }
         Ok(())
+    }
+}
+
+#[inline(always)]
+fn any_below_zero(form: &Form) -> bool {
+    form.iter().fold(0, |signs, value| signs | value) < 0
+}
+
+/// The L of the second and later weightings; the first has none.
+#[inline(always)]
+fn read_weighting_head(records: &[[u8; 8]], at: usize, weighting: u16) -> Result<usize, u32> {
+    if weighting == 0 {
+        return Ok(at);
+    }
+    let wanted = u64::from(b'L') | u64::from(weighting) << 16;
+    if records.get(at).is_some_and(|record| word(record) == wanted) {
+        Ok(at + 1)
+    } else {
+        Err(2)
     }
 }
 

@@ -229,6 +229,12 @@ fn search_finds_or_says_so() {
     let folder = folder("search");
     let (found, out) = (write(&folder, "found.txt", found), folder.join("out"));
     succeeds(ASSEMBLE, &["cert", &found, out.to_str().unwrap()]);
+    // No single weighting does for this one.
+    let several = succeeds(SEARCH, &[&example("5.1.37-even-and-odd.pack.txt")]);
+    assert_eq!(several.matches("\nweighting\n").count(), 1, "{several}");
+    succeeds(ASSEMBLE, &["cert", &write(&folder, "several.txt", several), out.to_str().unwrap()]);
+    let pack = fs::read(example("5.1.37-even-and-odd.pack")).unwrap();
+    assert_eq!(check(&pack, &fs::read(&out).unwrap()), 0);
     let why = fails(SEARCH, &[&example("loop.pack.txt"), "1"], 1);
     assert!(why.contains("no weights found"), "{why}");
     fails(SEARCH, &[&example("wide.pack.txt")], 1);

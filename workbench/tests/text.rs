@@ -183,6 +183,60 @@ fn certificates_are_judged() {
 }
 
 #[test]
+fn weightings_are_judged() {
+    let start = "symbols a/0 f/2\ncomponent\n";
+    let lines = |lines: &str| format!("{start}{lines}");
+    refused_certificate("weighting", 1, &["component is wanted first"]);
+    refused_certificate(&lines("weighting"), 3, &["a weighting before the pairs"]);
+    refused_certificate(&lines("pair 0 0\nweighting\npair 0 1"), 5, &["pairs are wanted first"]);
+    refused_certificate(&lines("pair 0 0\nweighting 1"), 4, &["\"1\"", "nothing is wanted"]);
+    refused_certificate(&lines("pair 0 0\nweighting\nmarked f = 1\nweight f = 1"), 6, &["weight after marked"]);
+    refused_certificate(&lines("pair 0 0\nweighting\nweight f = 1\nweight a = 1"), 6, &["rising"]);
+    refused_certificate(&lines("pair 0 0\nweighting\nmarked f = x1\nmarked f = x1"), 6, &["rising"]);
+    refused_certificate("component without weights\npair 0 0\nweighting", 3, &["line 1", "without weights"]);
+    let weightings = |count: usize| lines(&format!("pair 0 0\n{}", "weighting\n".repeat(count - 1)));
+    let most = assemble_certificate(&weightings(8), Mode::Strict).unwrap();
+    assert_eq!(most[..8], record(b'C', 0, 8, 1));
+    assert_eq!(most[most.len() - 8..], record(b'L', 7, 0, 0));
+    refused_certificate(&weightings(9), 11, &["more than 8 weightings"]);
+    assert_eq!(assemble_certificate(&weightings(9), Mode::Loose).unwrap()[..8], record(b'C', 0, 9, 1));
+}
+
+/// The numbers and the count of weightings are filled in, and weights rise anew after each `weighting`.
+#[test]
+fn weightings_are_filled_in() {
+    let weights = "weight f = 1 + x1\nmarked f = x2\n";
+    let component = format!("component\npair 0 0\n{}", [weights; 3].join("weighting\n"));
+    let text = format!("symbols a/0 f/2\n{component}{component}");
+    let bytes = assemble_certificate(&text, Mode::Strict).unwrap();
+    assert_eq!(assemble_certificate(&text, Mode::Loose).unwrap(), bytes);
+    let (records, _) = bytes.as_chunks::<8>();
+    let kinds = String::from_utf8(records.iter().map(|record| record[0]).collect()).unwrap();
+    assert_eq!(kinds, "CPWWMLWWMLWWM".repeat(2));
+    for start in [0, 13] {
+        assert_eq!(records[start], record(b'C', start as u16 / 13, 3, 1));
+        assert_eq!(records[start + 5], record(b'L', 1, 0, 0));
+        assert_eq!(records[start + 9], record(b'L', 2, 0, 0));
+    }
+    let shown = disassemble_certificate(&bytes, &strict_pack("symbols a/0 f/2\nvariables x y\nf(x, y) -> f(y, x)"));
+    assert_eq!(mode_of(&shown), Mode::Strict);
+    assert_eq!(shown.matches("\nweighting\n").count(), 4, "{shown}");
+}
+
+/// In a component without weights a weighting is a stray record, and stays one in the text.
+#[test]
+fn loose_weightings_are_strays() {
+    let text = "component without weights\npair 0 0\nweighting\nweighting\n";
+    let bytes = assemble_certificate(text, Mode::Loose).unwrap();
+    let strays = [record(b'C', 0, 0, 1), record(b'P', 0, 0, 0), record(b'L', 1, 0, 0), record(b'L', 2, 0, 0)];
+    assert_eq!(bytes, strays.concat());
+    assert_eq!(disassemble_certificate(&bytes, &[]), format!("{LOOSE_NOTE}\n{text}"));
+    // Numbers that are not filled in so have no such text.
+    let odd = [record(b'C', 0, 2, 1), record(b'P', 0, 0, 0), record(b'L', 2, 0, 0)].concat();
+    assert!(disassemble_certificate(&odd, &[]).contains("record L 0 2 0 0"));
+}
+
+#[test]
 fn limits_of_a_certificate_are_held() {
     let pairs = |count: usize| (0..count).map(|n| format!("pair {} {}\n", n / 32, n % 32)).collect::<String>();
     let component = |count: usize| format!("component\n{}", pairs(count));
@@ -271,12 +325,26 @@ fn some_certificate_text(random: &mut Random) -> String {
         for place in 0..random.range(least, if weighted { 3 } else { 1 }) {
             text += &format!("pair 0 {}\n", if random.chance(3) { 0 } else { place });
         }
-        for kind in ["weight", "marked"] {
-            for name in ["a", "b", "f", "@3"] {
-                if random.chance(if weighted { 30 } else { 3 }) {
-                    let sum = random.pick(&["1", "x1", "2 + x1", "x1 + 3*x2", "x2", "0", "65535", "x2 + x1"]);
-                    text += &format!("{kind} {name} = {sum}\n");
-                }
+        text += &some_weights(random, weighted);
+        let later = if weighted { *random.pick(&[0, 0, 0, 1, 2, 7, 8]) } else { usize::from(random.chance(3)) };
+        for _ in 0..later {
+            text += "weighting\n";
+            if random.chance(30) {
+                text += &some_weights(random, weighted);
+            }
+        }
+    }
+    text
+}
+
+/// The lines of one weighting.
+fn some_weights(random: &mut Random, weighted: bool) -> String {
+    let mut text = String::new();
+    for kind in ["weight", "marked"] {
+        for name in ["a", "b", "f", "@3"] {
+            if random.chance(if weighted { 30 } else { 3 }) {
+                let sum = random.pick(&["1", "x1", "2 + x1", "x1 + 3*x2", "x2", "0", "65535", "x2 + x1"]);
+                text += &format!("{kind} {name} = {sum}\n");
             }
         }
     }
@@ -288,7 +356,7 @@ fn some_certificate_text(random: &mut Random) -> String {
 fn strict_certificates_are_readable() {
     let pack = strict_pack("symbols a/0 b/0 f/1 g/2\nvariables x y\ng(x, y) -> g(g(a, f(x)), g(x, x))\nf(x) -> f(x)");
     let mut random = Random::new(13);
-    let mut counts = [0; 16];
+    let mut counts = [0; 18];
     for _ in 0..30_000 {
         let text = some_certificate_text(&mut random);
         let Ok(bytes) = assemble_certificate(&text, Mode::Strict) else {
@@ -407,6 +475,7 @@ fn any_text_is_answered() {
         "x1",
         ";",
         "without weights",
+        "weighting",
         "\u{301}",
     ];
     let mut random = Random::new(17);

@@ -1,7 +1,7 @@
 //! Quick tests of the workbench itself; the long runs are the programs `compare` and `check-examples`.
 
 use workbench::generate::limits::{of_shape, Shape, SHAPES};
-use workbench::generate::packs::{dense, guided, Base, Size};
+use workbench::generate::packs::{dense, dense_in_two, guided, Base, Size};
 use workbench::generate::{case, spoil};
 use workbench::graph::{graph, is_ordered};
 use workbench::random::Random;
@@ -26,7 +26,7 @@ fn any_bytes_are_answered() {
             }
             bytes
         };
-        let (pack, certificate) = (file(b"SSSRFFV"), file(b"CCPWM"));
+        let (pack, certificate) = (file(b"SSSRFFV"), file(b"CCPWML"));
         assert_eq!(checker::check(&pack, &certificate), tuned::check(&pack, &certificate));
         disassemble_pack(&pack);
         disassemble_certificate(&certificate, &pack);
@@ -49,6 +49,9 @@ fn guided_certificates_are_accepted() {
     assert_eq!(checker::pairs(&base.pack).len(), 2_047);
     assert_eq!(checker::check(&encode::pack_bytes(&base.pack), &encode::certificate_bytes(&base.components)), 0);
     assert_eq!(checker::pairs(&dense(&mut Random::new(3), 0).pack).len(), 2_048);
+    let base = dense_in_two(&mut Random::new(4), 1);
+    assert!(base.components.iter().any(|component| component.weightings.len() == 2));
+    assert_eq!(checker::check(&encode::pack_bytes(&base.pack), &encode::certificate_bytes(&base.components)), 0);
 }
 
 /// Bases near the limit of forms are heavy about as often as not; the others are judged to their end, and most accepted.
@@ -88,15 +91,17 @@ fn greatest(base: &Base) -> Option<u64> {
         greatest = form.coefficients.values().fold(greatest.max(form.constant), |one, other| one.max(*other));
         Some(())
     };
-    for component in base.components.iter().filter(|component| component.weighted) {
-        for rule in &base.pack.rules {
-            for node in [&rule.left, &rule.right].into_iter().flat_map(checker::subterms) {
-                note(checker::form(node, &component.plain))?;
+    for component in &base.components {
+        for weighting in &component.weightings {
+            for rule in &base.pack.rules {
+                for node in [&rule.left, &rule.right].into_iter().flat_map(checker::subterms) {
+                    note(checker::form(node, &weighting.plain))?;
+                }
             }
-        }
-        for pair in &component.pairs {
-            note(checker::marked_form(checker::pair_left(&base.pack, *pair), component))?;
-            note(checker::marked_form(checker::pair_right(&base.pack, *pair), component))?;
+            for pair in &component.pairs {
+                note(checker::marked_form(checker::pair_left(&base.pack, *pair), weighting))?;
+                note(checker::marked_form(checker::pair_right(&base.pack, *pair), weighting))?;
+            }
         }
     }
     Some(greatest)
@@ -120,7 +125,7 @@ fn groups_are_ordered() {
 fn slow_files_are_accepted() {
     let bases =
         [slow::arcs(2), slow::arcs(6), slow::arcs(30), slow::chains(437, true), slow::wide(384), slow::brink(335)];
-    for base in bases {
+    for base in bases.into_iter().chain((1..=8).map(slow::weightings)) {
         assert_eq!(tuned::check(&encode::pack_bytes(&base.pack), &encode::certificate_bytes(&base.components)), 0);
     }
 }

@@ -11,13 +11,15 @@ use std::process::ExitCode;
 use std::time::{Duration, Instant};
 use workbench::checker::{is_defined, judge_pack, pairs, PACK_LIMIT};
 use workbench::encode::{certificate_bytes, pack_bytes};
+use workbench::generate::lexicographic::of_levels;
 use workbench::generate::packs::{dense, guided, Base, Size};
+use workbench::generate::weightings::split;
 use workbench::implementation::{all, library_and_before, Copies, Implementation};
 use workbench::random::Random;
 use workbench::report::{number, run, say, Arguments, Failure};
 use workbench::slow_texts::Side;
 use workbench::solver_text::TEXT_LIMIT;
-use workbench::{slow, slow_texts};
+use workbench::{slow, slow_texts, tuned};
 
 const USAGE: &str =
     "bench [--before] [rounds], 1 to 10000, 20 by default; ./bench --before FILE.a [rounds] links FILE.a";
@@ -67,6 +69,7 @@ fn bench(arguments: Arguments) -> Result<(), Failure> {
     for workload in workloads() {
         bench.ratios(&workload.name, &|one| check_all(one, &workload));
     }
+    bench.weightings();
     bench.header("\nlist");
     for workload in workloads().iter().take(4) {
         bench.ratios(&workload.name, &|one| list_all(one, workload));
@@ -137,15 +140,41 @@ fn workloads() -> Vec<Workload> {
         workload("weights: chains, all equal", [slow::chains(437, false)]),
         workload("weights: 16 variables", [slow::wide(384)]),
         workload("weights: at the brink", [slow::brink(335)]),
+        workload("two weightings", seeded(100, |random| lexicographic(random, 2))),
+        workload("eight weightings", seeded(100, |random| lexicographic(random, 8))),
+        workload("large packs, 2 or 3 weightings", seeded(20, parted)),
     ]
+}
+
+/// Pairs that leave one after the other, in exactly so many weightings and accepted.
+fn lexicographic(random: &mut Random, levels: usize) -> Base {
+    loop {
+        let base = of_levels(random, levels);
+        let suits = |base: &Base| base.components.iter().any(|component| component.weightings.len() == levels);
+        if suits(&base) && tuned::check(&pack_bytes(&base.pack), &certificate_bytes(&base.components)) == 0 {
+            return base;
+        }
+    }
+}
+
+/// A large pack some of whose components have two or three weightings.
+fn parted(random: &mut Random) -> Base {
+    loop {
+        let mut base = guided(random, Size::Large);
+        let most = random.range(2, 3);
+        split(random, &mut base, most);
+        if base.components.iter().any(|component| component.weightings.len() > 1) {
+            return base;
+        }
+    }
 }
 
 /// About so many pairs in one component, with as many rules as needed.
 fn pairs_base(count: usize) -> Base {
     let mut base = dense(&mut Random::new(5), 1);
     base.pack.rules.truncate(count.div_ceil(32));
-    let mut component = base.components.iter().find(|component| component.weighted).cloned().unwrap_or_default();
-    component.marked.retain(|(symbol, _), _| is_defined(&base.pack, *symbol));
+    let mut component = base.components.iter().find(|component| component.is_weighted()).cloned().unwrap_or_default();
+    component.weightings[0].marked.retain(|(symbol, _), _| is_defined(&base.pack, *symbol));
     component.pairs = pairs(&base.pack);
     base.components = vec![component];
     base
@@ -221,13 +250,37 @@ impl Bench {
     }
 
     /// One line: all in times of the tuned one, or of the first where that is missing, or the library in times of the
-    /// one before. Answers the times.
+    /// one before; no line where that one answers otherwise, as it is no measure then. Answers the times.
     fn ratios(&self, name: &str, job: Job) -> Vec<Duration> {
+        if self.before && !self.agree(job) {
+            return Vec::new();
+        }
         let times = self.measure(job);
         let unit = if self.before { "before" } else { "tuned" };
         let unit = times[self.implementations.iter().position(|copies| copies[0].name() == unit).unwrap_or(0)];
         self.line(name, times.iter().take(self.shown()).map(|time| Some(time.div_duration_f64(unit))), job);
         times
+    }
+
+    /// Does the one before give the answer of the library?
+    fn agree(&self, job: Job) -> bool {
+        let mut answers = self.implementations.iter().flatten().map(|one| job(one.as_ref()));
+        let first = answers.next();
+        answers.all(|answer| Some(answer) == first)
+    }
+
+    /// Eight weightings in times of one, for the same pack, by the library.
+    fn weightings(&self) {
+        let library = self.implementations.iter().position(|copies| copies[0].name() == "library");
+        let (false, Some(library)) = (self.before, library) else {
+            return;
+        };
+        let time = |count: usize| {
+            let workload = workload("weightings", [slow::weightings(count)]);
+            self.measure(&|one| check_all(one, &workload))[library]
+        };
+        let ratio = time(8).div_duration_f64(time(1));
+        say(format_args!("\nlibrary: eight weightings in times of one, for the same pack: {ratio:.2}"));
     }
 
     /// One line a text, in times of the plain reader; and the worst text in times of an ordinary one, by the library.

@@ -4,6 +4,7 @@
 //! the tuned one, or against the library if that is compiled in.
 
 use std::process::ExitCode;
+use workbench::checker::WEIGHTING_LIMIT;
 use workbench::generate::texts::TextQuestion;
 use workbench::generate::{case, Case};
 use workbench::implementation::{by_name, Implementation};
@@ -20,7 +21,7 @@ const OTHER: &str = if cfg!(feature = "library") { "library" } else { "tuned" };
 const PATTERN: u8 = 0xA7;
 
 /// How often each number came; the last place is for all that should not come.
-type Numbers = [u64; 18];
+type Numbers = [u64; 19];
 
 /// How often each answer came.
 #[derive(Default)]
@@ -30,6 +31,8 @@ struct Counts {
     arcs: Numbers,
     texts: Numbers,
     yes: u64,
+    /// Accepted certificates by the most weightings of one component.
+    weightings: [u64; 1 + WEIGHTING_LIMIT as usize],
 }
 
 fn main() -> ExitCode {
@@ -94,6 +97,9 @@ fn compare(
     let answers = (one.check(&case.pack, &case.certificate), other.check(&case.pack, &case.certificate));
     same("check", answers.0, answers.1)?;
     count(&mut counts.checks, answers.0);
+    if answers.0 == 0 {
+        counts.weightings[most_weightings(&case.certificate)] += 1;
+    }
     compare_lists(one, other, case, counts)?;
     for question in &case.questions {
         let answers = (one.arc(&case.pack, *question), other.arc(&case.pack, *question));
@@ -156,6 +162,13 @@ fn same<T: PartialEq + std::fmt::Debug>(what: &str, one: T, other: T) -> Result<
     }
 }
 
+/// The most weightings that one component of an accepted certificate has.
+fn most_weightings(certificate: &[u8]) -> usize {
+    let (records, _) = certificate.as_chunks::<8>();
+    let heads = records.iter().filter(|record| record[0] == b'C');
+    heads.map(|record| usize::from(record[4])).max().unwrap_or(0)
+}
+
 fn count(counts: &mut Numbers, number: u32) {
     counts[(number as usize).min(counts.len() - 1)] += 1;
 }
@@ -173,10 +186,12 @@ fn show(case: &Case) {
 impl Counts {
     fn print(&self) {
         say(format_args!("{:>6} {:>9} {:>9} {:>9} {:>9}", "answer", "checks", "lists", "arcs", "texts"));
-        for number in 0..17 {
+        for number in 0..18 {
             let [checks, lists, arcs, texts] = [self.checks, self.lists, self.arcs, self.texts].map(|all| all[number]);
             say(format_args!("{number:>6} {checks:>9} {lists:>9} {arcs:>9} {texts:>9}"));
         }
         say(format_args!("{} of the arc answers 0 are yes, {} no", self.yes, self.arcs[0] - self.yes));
+        let accepted: Vec<String> = self.weightings.iter().map(u64::to_string).collect();
+        say(format_args!("accepted with at most 0, 1, 2 .. weightings in a component: {}", accepted.join(" ")));
     }
 }

@@ -5,8 +5,9 @@
 //! allowed order, so that 11 and what comes after it are reached.
 
 use super::packs::Base;
-use crate::checker::{arc_runs, form, is_defined, root, subterms, variables};
-use crate::checker::{Component, Form, Pack, Pair, Rule, Term};
+use super::weightings::name_zeros;
+use crate::checker::{arc_runs, form, root, subterms, variables};
+use crate::checker::{Component, Form, Pack, Pair, Rule, Term, Weighting};
 use crate::checker::{ARITY_LIMIT, FORM_LIMIT, NODE_LIMIT, SYMBOL_LIMIT, VARIABLE_LIMIT};
 use crate::graph::graph;
 use crate::random::Random;
@@ -118,7 +119,7 @@ struct Slot {
 #[derive(Default)]
 struct Draft {
     arities: Vec<u16>,
-    weights: Component,
+    weights: Weighting,
     rules: Vec<Rule>,
     tip: Tip,
 }
@@ -145,7 +146,6 @@ fn other_variable(random: &mut Random, variable: u16) -> u16 {
 impl Draft {
     fn new(random: &mut Random, shape: Shape) -> Draft {
         let mut draft = Draft::default();
-        draft.weights.weighted = true;
         draft.symbol(0, &[]);
         draft.symbol(1, &[]);
         draft.symbol(1, &[1]);
@@ -587,7 +587,8 @@ impl Draft {
 impl Draft {
     fn base(self, random: &mut Random) -> Base {
         let pack = Pack { arities: self.arities, rules: self.rules };
-        let blocks = blocks(random, &pack);
+        // All joined, some or none.
+        let blocks = blocks(random, &pack, &[0, 50, 100]);
         let steps = steps(random, blocks.len());
         let mut components = Vec::new();
         for (pairs, step) in blocks.into_iter().zip(steps) {
@@ -596,10 +597,10 @@ impl Draft {
                 components.push(Component { pairs, ..Component::default() });
                 continue;
             }
-            let mut component = Component { pairs, ..self.weights.clone() };
-            set_tip(&mut component, self.tip, step);
-            name_zeros(random, &pack, &mut component);
-            components.push(component);
+            let mut weighting = self.weights.clone();
+            set_tip(&mut weighting, self.tip, step);
+            name_zeros(random, &pack, &mut weighting);
+            components.push(Component { pairs, weightings: vec![weighting] });
         }
         Base { pack, components }
     }
@@ -610,16 +611,16 @@ fn needs_no_weights(pack: &Pack, pairs: &[Pair]) -> bool {
 }
 
 /// The tip so far from the value it is made for.
-fn set_tip(component: &mut Component, tip: Tip, step: i32) {
-    let weights = if tip.marked { &mut component.marked } else { &mut component.plain };
+fn set_tip(weighting: &mut Weighting, tip: Tip, step: i32) {
+    let weights = if tip.marked { &mut weighting.marked } else { &mut weighting.plain };
     let value = (i32::from(tip.exact) + step).clamp(0, i32::from(GREATEST));
     weights.insert(tip.key, value as u16);
 }
 
-/// The groups of the arc graph in order, all joined, some or none.
-fn blocks(random: &mut Random, pack: &Pack) -> Vec<Vec<Pair>> {
+/// The groups of the arc graph in order, one of these percents of them joined to the one before.
+pub fn blocks(random: &mut Random, pack: &Pack, percents: &[usize]) -> Vec<Vec<Pair>> {
     let graph = graph(pack);
-    let join = *random.pick(&[0, 50, 100]);
+    let join = *random.pick(percents);
     let mut blocks: Vec<Vec<Pair>> = Vec::new();
     for group in graph.groups(random) {
         let group = group.into_iter().map(|index| graph.pairs[index]);
@@ -646,15 +647,4 @@ fn steps(random: &mut Random, count: usize) -> Vec<i32> {
         _ => {}
     }
     steps
-}
-
-/// Sometimes a weight of 0 is written out: the same weights, but not the same records.
-fn name_zeros(random: &mut Random, pack: &Pack, component: &mut Component) {
-    for _ in 0..*random.pick(&[0, 0, 1, 3]) {
-        let symbol = random.below(pack.arities.len()) as u16;
-        let place = random.range(0, usize::from(pack.arities[usize::from(symbol)])) as u16;
-        let marked = is_defined(pack, symbol) && random.chance(50);
-        let weights = if marked { &mut component.marked } else { &mut component.plain };
-        weights.entry((symbol, place)).or_insert(0);
-    }
 }

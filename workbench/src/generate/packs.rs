@@ -1,12 +1,14 @@
 //! Packs made together with weights that suit them, and certificates found for them.
 
+use super::weightings::under_which_some_leave;
 use crate::checker::{at_least, form, greater, marked_form, pair_left, pair_right, variables, ARITY_LIMIT};
-use crate::checker::{Component, Pack, Pair, Rule, Term};
+use crate::checker::{Component, Pack, Pair, Rule, Term, Weighting};
+use crate::encode::certificate_bytes;
 use crate::graph::{graph, Graph};
 use crate::random::Random;
 
 /// Records a certificate can have.
-const RECORDS: usize = 3_072;
+pub const RECORDS: usize = 3_072;
 
 /// A pack and a certificate, mostly an accepted one.
 #[derive(Clone)]
@@ -31,7 +33,7 @@ struct Plan {
     defined: Vec<u16>,
     /// A rule may always call symbols of a lower level than its root's.
     levels: Vec<usize>,
-    weights: Component,
+    weights: Weighting,
     variables: usize,
 }
 
@@ -75,7 +77,7 @@ fn plan(random: &mut Random, symbols: usize, rules: usize, variables: usize, siz
     arities[usize::from(constructors[0])] = 0;
     arities[usize::from(constructors[1])] = 1;
     let levels = (0..symbols).map(|_| random.below(defined_count / 2 + 2)).collect();
-    let weights = Component { weighted: true, ..Component::default() };
+    let weights = Weighting::default();
     let mut plan = Plan { arities, constructors, defined, levels, weights, variables };
     plan.weigh_constructors(random);
     plan.weigh_defined(random, size);
@@ -346,7 +348,7 @@ fn some_variables(random: &mut Random, most: usize) -> Vec<u16> {
 }
 
 /// Is the pair of these two sides greater on the left?
-fn strictly(left: &Term, right: &Term, weights: &Component) -> bool {
+fn strictly(left: &Term, right: &Term, weights: &Weighting) -> bool {
     match (marked_form(left, weights), marked_form(right, weights)) {
         (Ok(left), Ok(right)) => greater(&left, &right),
         _ => false,
@@ -356,7 +358,7 @@ fn strictly(left: &Term, right: &Term, weights: &Component) -> bool {
 // ---------------------------------------------------------------- certificates
 
 /// Orders the groups of the arc graph and gives them components under these weights.
-pub fn certify(random: &mut Random, pack: &Pack, weights: &Component) -> Vec<Component> {
+pub fn certify(random: &mut Random, pack: &Pack, weights: &Weighting) -> Vec<Component> {
     let graph = graph(pack);
     let groups = graph.groups(random);
     let falls: Vec<bool> = graph.pairs.iter().map(|pair| falls_under(pack, *pair, weights)).collect();
@@ -374,12 +376,13 @@ pub fn certify(random: &mut Random, pack: &Pack, weights: &Component) -> Vec<Com
     }
 }
 
-fn falls_under(pack: &Pack, pair: Pair, weights: &Component) -> bool {
+/// Does the pair fall, within the limit?
+pub fn falls_under(pack: &Pack, pair: Pair, weights: &Weighting) -> bool {
     strictly(pair_left(pack, pair), pair_right(pack, pair), weights)
 }
 
-fn records(components: &[Component]) -> usize {
-    components.iter().map(|c| 1 + c.pairs.len() + c.plain.len() + c.marked.len()).sum()
+pub fn records(components: &[Component]) -> usize {
+    certificate_bytes(components).len() / 8
 }
 
 /// How one certificate is laid out.
@@ -431,36 +434,36 @@ fn blocks(random: &mut Random, graph: &Graph, groups: &[Vec<usize>], falls: &[bo
 }
 
 /// A component with its weights, perhaps varied in a way that proves the same.
-fn dressed(random: &mut Random, pack: &Pack, block: Block, weights: &Component, habits: &Habits) -> Component {
-    let mut component = Component { weighted: block.weighted, pairs: block.pairs, ..Component::default() };
-    if !component.weighted {
-        return component;
+fn dressed(random: &mut Random, pack: &Pack, block: Block, weights: &Weighting, habits: &Habits) -> Component {
+    let pairs = block.pairs;
+    if !block.weighted {
+        return Component { pairs, ..Component::default() };
     }
-    component.plain = weights.plain.clone();
-    component.marked = weights.marked.clone();
+    let mut weighting = weights.clone();
     if habits.thrifty || random.chance(70) {
-        keep_needed_marks(pack, &mut component);
+        keep_needed_marks(pack, &pairs, &mut weighting);
     }
     if random.chance(habits.vary) {
-        vary(random, pack, &mut component);
+        vary(random, pack, &mut weighting);
     }
-    component
+    Component { pairs, weightings: vec![weighting] }
 }
 
-/// Only the marked symbols at this component's roots matter.
-fn keep_needed_marks(pack: &Pack, component: &mut Component) {
-    let mut roots = Vec::new();
-    for pair in &component.pairs {
-        roots.extend(crate::checker::root(pair_left(pack, *pair)));
-        roots.extend(crate::checker::root(pair_right(pack, *pair)));
-    }
-    component.marked.retain(|(symbol, _), _| roots.contains(symbol));
+/// Only the marked symbols at these pairs' roots matter.
+fn keep_needed_marks(pack: &Pack, pairs: &[Pair], weighting: &mut Weighting) {
+    let roots: Vec<u16> = pairs.iter().flat_map(|pair| roots_of(pack, *pair)).collect();
+    weighting.marked.retain(|(symbol, _), _| roots.contains(symbol));
+}
+
+/// The symbols at the roots of a pair's left and right.
+pub fn roots_of(pack: &Pack, pair: Pair) -> Vec<u16> {
+    [pair_left(pack, pair), pair_right(pack, pair)].into_iter().filter_map(crate::checker::root).collect()
 }
 
 /// Constants times one factor prove the same; so do weights of 0 written out.
-fn vary(random: &mut Random, pack: &Pack, component: &mut Component) {
+fn vary(random: &mut Random, pack: &Pack, weighting: &mut Weighting) {
     let factor = *random.pick(&[1, 1, 2, 3, 10, 100]);
-    for weights in [&mut component.plain, &mut component.marked] {
+    for weights in [&mut weighting.plain, &mut weighting.marked] {
         for ((_, place), value) in weights.iter_mut() {
             if *place == 0 {
                 *value = value.saturating_mul(factor);
@@ -470,7 +473,7 @@ fn vary(random: &mut Random, pack: &Pack, component: &mut Component) {
     for _ in 0..random.below(3) {
         let symbol = random.below(pack.arities.len()) as u16;
         let place = random.range(0, usize::from(pack.arities[usize::from(symbol)])) as u16;
-        component.plain.entry((symbol, place)).or_insert(0);
+        weighting.plain.entry((symbol, place)).or_insert(0);
     }
 }
 
@@ -488,6 +491,20 @@ pub fn dense(random: &mut Random, holes: usize) -> Base {
     let weights = shape.weights();
     let components = certify(random, &pack, &weights);
     Base { pack, components }
+}
+
+/// The same with two weightings: under the first the calls of the lowest constant stay.
+pub fn dense_in_two(random: &mut Random, holes: usize) -> Base {
+    let mut base = dense(random, holes);
+    for component in &mut base.components {
+        if let Some(second) = component.weightings.pop() {
+            let mut first = second.clone();
+            let great = second.plain.get(&(GREAT, 0)).copied().unwrap_or(0);
+            first.marked.insert((LOWEST, 0), great);
+            component.weightings = under_which_some_leave(&base.pack, &component.pairs, vec![first, second]);
+        }
+    }
+    base
 }
 
 /// Symbols of a dense pack: two constants, a unary one, lowest constant call, then calls.
@@ -566,8 +583,8 @@ impl Dense {
     }
 
     /// Great is 2, the marked lowest 1, a marked call its first argument, all other calls 0.
-    fn weights(&self) -> Component {
-        let mut weights = Component { weighted: true, ..Component::default() };
+    fn weights(&self) -> Weighting {
+        let mut weights = Weighting::default();
         weights.plain.insert((GREAT, 0), 2);
         weights.plain.insert((SHELL, 1), 1);
         weights.marked.insert((LOWEST, 0), 1);
@@ -605,8 +622,8 @@ pub fn unguided(random: &mut Random, size: Size) -> Base {
 
 /// The plan's defined symbols need not be the pack's.
 fn only_defined_marks(pack: &Pack, mut components: Vec<Component>) -> Vec<Component> {
-    for component in &mut components {
-        component.marked.retain(|(symbol, _), _| crate::checker::is_defined(pack, *symbol));
+    for weighting in components.iter_mut().flat_map(|component| &mut component.weightings) {
+        weighting.marked.retain(|(symbol, _), _| crate::checker::is_defined(pack, *symbol));
     }
     components
 }

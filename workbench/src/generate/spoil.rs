@@ -4,7 +4,7 @@
 
 use super::packs::Base;
 use crate::checker::{arc_runs, is_defined, root, subterms, variables};
-use crate::checker::{Component, Pack, Pair, Term, CERTIFICATE_LIMIT, PACK_LIMIT};
+use crate::checker::{Component, Pack, Pair, Term, Weighting, CERTIFICATE_LIMIT, PACK_LIMIT};
 use crate::encode::record;
 use crate::random::Random;
 
@@ -83,11 +83,19 @@ fn some_component(random: &mut Random, components: &[Component]) -> Option<usize
 
 /// A component with weights, often a late one.
 fn some_weighted(random: &mut Random, components: &[Component]) -> Option<usize> {
-    let weighted: Vec<usize> = (0..components.len()).filter(|index| components[*index].weighted).collect();
+    let weighted: Vec<usize> = (0..components.len()).filter(|index| components[*index].is_weighted()).collect();
     if weighted.is_empty() {
         return None;
     }
     Some(weighted[random.late(weighted.len())])
+}
+
+/// A weighting of such a component, often a late one.
+fn some_weighting<'a>(random: &mut Random, components: &'a mut [Component]) -> Option<&'a mut Weighting> {
+    let number = some_weighted(random, components)?;
+    let weightings = &mut components[number].weightings;
+    let at = random.late(weightings.len());
+    weightings.get_mut(at)
 }
 
 /// A pair's place or rule is moved, mostly so that the pairs still rise.
@@ -134,7 +142,7 @@ fn pair_count(random: &mut Random, components: &mut Vec<Component>) {
     }
     match some_weighted(random, components) {
         // Twice in one component: the pairs do not rise.
-        _ if components[number].weighted && random.chance(20) => components[number].pairs.insert(at, pair),
+        _ if components[number].is_weighted() && random.chance(20) => components[number].pairs.insert(at, pair),
         Some(other) if random.chance(70) => {
             components[other].pairs.push(pair);
             components[other].pairs.sort_unstable();
@@ -177,14 +185,14 @@ fn exchange(random: &mut Random, base: &mut Base) {
 fn without_weights(random: &mut Random, base: &mut Base) {
     let own = |component: &Component| {
         let first = component.pairs.first();
-        component.weighted && first.is_some_and(|pair| arc_runs(&base.pack, *pair, *pair))
+        component.is_weighted() && first.is_some_and(|pair| arc_runs(&base.pack, *pair, *pair))
     };
     let single: Vec<usize> = (0..base.components.len())
         .filter(|i| base.components[*i].pairs.len() == 1 && own(&base.components[*i]))
         .collect();
     if !single.is_empty() {
         let number = single[random.late(single.len())];
-        strip(&mut base.components[number]);
+        base.components[number].weightings.clear();
         return;
     }
     let Some(number) = some_weighted(random, &base.components) else {
@@ -199,18 +207,11 @@ fn without_weights(random: &mut Random, base: &mut Base) {
     }
 }
 
-fn strip(component: &mut Component) {
-    component.weighted = false;
-    component.plain.clear();
-    component.marked.clear();
-}
-
 /// Great weights on some symbols, plain or marked.
 fn heavy(random: &mut Random, base: &mut Base) {
-    let Some(number) = some_weighted(random, &base.components) else {
+    let Some(weighting) = some_weighting(random, &mut base.components) else {
         return;
     };
-    let component = &mut base.components[number];
     let great = *random.pick(&[65_535, 65_535, 65_534, 40_000, 1_626, 1_625, 256]);
     for _ in 0..random.range(1, 4) {
         let marked = random.chance(30);
@@ -218,7 +219,7 @@ fn heavy(random: &mut Random, base: &mut Base) {
         if marked && !is_defined(&base.pack, symbol) {
             continue;
         }
-        let weights = if marked { &mut component.marked } else { &mut component.plain };
+        let weights = if marked { &mut weighting.marked } else { &mut weighting.plain };
         for place in 0..=base.pack.arities[usize::from(symbol)] {
             if random.chance(70) {
                 weights.insert((symbol, place), great);
@@ -243,21 +244,19 @@ fn some_symbol(random: &mut Random, pack: &Pack) -> u16 {
 
 /// A plain weight is dropped, raised or set.
 fn plain_change(random: &mut Random, base: &mut Base) {
-    let Some(number) = some_weighted(random, &base.components) else {
+    let Some(weighting) = some_weighting(random, &mut base.components) else {
         return;
     };
-    let component = &mut base.components[number];
-    change(random, &mut component.plain, &base.pack.arities, |_| true);
+    change(random, &mut weighting.plain, &base.pack.arities, |_| true);
 }
 
 /// A marked weight is dropped, raised or set.
 fn marked_change(random: &mut Random, base: &mut Base) {
-    let Some(number) = some_weighted(random, &base.components) else {
+    let Some(weighting) = some_weighting(random, &mut base.components) else {
         return;
     };
     let pack = &base.pack;
-    let component = &mut base.components[number];
-    change(random, &mut component.marked, &pack.arities, |symbol| is_defined(pack, symbol));
+    change(random, &mut weighting.marked, &pack.arities, |symbol| is_defined(pack, symbol));
 }
 
 fn change(random: &mut Random, weights: &mut crate::checker::Weights, arities: &[u16], allowed: impl Fn(u16) -> bool) {
@@ -280,12 +279,12 @@ fn change(random: &mut Random, weights: &mut crate::checker::Weights, arities: &
 
 // ---------------------------------------------------------------- on bytes
 
-fn indices(file: &[u8], kinds: &[u8]) -> Vec<usize> {
+pub fn indices(file: &[u8], kinds: &[u8]) -> Vec<usize> {
     (0..file.len() / 8).filter(|index| kinds.contains(&file[index * 8])).collect()
 }
 
 /// A record of one of these kinds, often a late one.
-fn some_record(random: &mut Random, file: &[u8], kinds: &[u8]) -> Option<usize> {
+pub fn some_record(random: &mut Random, file: &[u8], kinds: &[u8]) -> Option<usize> {
     let indices = indices(file, kinds);
     if indices.is_empty() {
         return None;
@@ -293,11 +292,11 @@ fn some_record(random: &mut Random, file: &[u8], kinds: &[u8]) -> Option<usize> 
     Some(indices[random.late(indices.len())])
 }
 
-fn field(file: &[u8], record: usize, at: usize) -> u16 {
+pub fn field(file: &[u8], record: usize, at: usize) -> u16 {
     u16::from_le_bytes([file[record * 8 + at], file[record * 8 + at + 1]])
 }
 
-fn set_field(file: &mut [u8], record: usize, at: usize, value: u16) {
+pub fn set_field(file: &mut [u8], record: usize, at: usize, value: u16) {
     file[record * 8 + at..record * 8 + at + 2].copy_from_slice(&value.to_le_bytes());
 }
 
@@ -327,13 +326,13 @@ fn grow(file: &mut Vec<u8>, length: usize) {
 pub fn stray(random: &mut Random, file: &mut Vec<u8>) {
     let count = file.len() / 8;
     if count == 0 {
-        file.extend(record(*random.pick(b"RFVPWMSCX"), 0, 1, 1));
+        file.extend(record(*random.pick(b"RFVPWMLSCX"), 0, 1, 1));
         return;
     }
     let at = random.late(count);
     match random.below(9) {
         0 => file[at * 8 + 1] = random.range(1, 255) as u8,
-        1 => file[at * 8] = *random.pick(b"SRFVCPWMsX\0"),
+        1 => file[at * 8] = *random.pick(b"SRFVCPWMLsX\0"),
         2 => unnamed_field(random, file),
         3 => sequence(random, file),
         4 => doubled(file, at),
@@ -346,7 +345,7 @@ pub fn stray(random: &mut Random, file: &mut Vec<u8>) {
 
 /// A field that the kind does not name becomes other than zero.
 fn unnamed_field(random: &mut Random, file: &mut [u8]) {
-    let Some(at) = some_record(random, file, b"SFVP") else {
+    let Some(at) = some_record(random, file, b"SFVPL") else {
         return;
     };
     let value = *random.pick(&[1, 2, 256, 65_535]);
@@ -356,9 +355,9 @@ fn unnamed_field(random: &mut Random, file: &mut [u8]) {
     }
 }
 
-/// S, R or C gets another number.
+/// S, R, C or L gets another number.
 fn sequence(random: &mut Random, file: &mut [u8]) {
-    if let Some(at) = some_record(random, file, b"SRC") {
+    if let Some(at) = some_record(random, file, b"SRCL") {
         let number = field(file, at, 2);
         let other = *random.pick(&[number.wrapping_add(1), number.wrapping_sub(1), 0, 64, number ^ 256]);
         set_field(file, at, 2, other);
@@ -405,7 +404,7 @@ pub fn pack_out_of_range(random: &mut Random, file: &mut Vec<u8>) {
 pub fn certificate_out_of_range(random: &mut Random, file: &mut [u8], pack: &Pack) {
     let symbols = pack.arities.len() as u16;
     match random.below(5) {
-        0 => set_some(random, file, b"C", 4, &[2, 3, 256, 65_535]),
+        0 => set_some(random, file, b"C", 4, &[9, 9, 10, 256, 65_535]),
         1 => set_some(random, file, b"C", 6, &[0, 2_049, 65_535]),
         2 => set_some(random, file, b"WM", 2, &[symbols, symbols + 1, 64, 65_535]),
         3 => weight_place(random, file, pack),

@@ -3,7 +3,7 @@
 use super::names::Names;
 use super::words::{at_line, counted, explicit_bytes, explicit_record, first_word, lines, number, shown};
 use super::{Answer, Mode, COUNT_LIMIT};
-use crate::checker::{Pair, CERTIFICATE_LIMIT, PAIR_LIMIT};
+use crate::checker::{Pair, CERTIFICATE_LIMIT, PAIR_LIMIT, WEIGHTING_LIMIT};
 use crate::encode::record;
 
 /// From a certificate's text to its bytes. What strict mode assembles is refused with neither 1 nor 2, and with 3
@@ -19,7 +19,7 @@ pub fn assemble_certificate(text: &str, mode: Mode) -> Answer<Vec<u8>> {
     Ok(assembly.bytes)
 }
 
-/// The bytes so far; the last C record is mended when a pair is added.
+/// The bytes so far; the last C record is mended when a pair or a weighting is added.
 struct CertificateAssembly {
     mode: Mode,
     names: Names,
@@ -33,6 +33,8 @@ struct Open {
     line: usize,
     head: usize,
     weighted: bool,
+    /// The `weighting` lines so far: the weightings after the first.
+    later: usize,
     stage: Stage,
     pairs: usize,
     last_pair: Option<Pair>,
@@ -69,6 +71,7 @@ impl CertificateAssembly {
             ("bytes", rest) => explicit_bytes(rest, self.mode).map(|bytes| self.bytes.extend(bytes)),
             ("component", rest) => self.component(number, rest),
             ("pair", rest) => self.pair(rest),
+            ("weighting", rest) => self.weighting(rest),
             ("weight", rest) => self.weights(Stage::Weights, rest),
             ("marked", rest) => self.weights(Stage::Marked, rest),
             _ => Err(format!("{} is no line of a certificate", shown(line))),
@@ -97,7 +100,7 @@ impl CertificateAssembly {
         let number = counted(self.components + 1, COUNT_LIMIT, "components")? - 1;
         self.components += 1;
         let (head, stage) = (self.bytes.len(), Stage::Pairs);
-        self.open = Some(Open { line, head, weighted, stage, pairs: 0, last_pair: None, last_weight: None });
+        self.open = Some(Open { line, head, weighted, later: 0, stage, pairs: 0, last_pair: None, last_weight: None });
         self.bytes.extend(record(b'C', number, u16::from(weighted), 0));
         Ok(())
     }
@@ -128,6 +131,24 @@ impl CertificateAssembly {
         Ok(())
     }
 
+    /// `weighting`: the next one of the component begins.
+    fn weighting(&mut self, words: &str) -> Answer<()> {
+        if !words.is_empty() {
+            return Err(format!("weighting {}; nothing is wanted after it", shown(words)));
+        }
+        let open = self.open.as_mut().ok_or("a weighting before the first component; a component is wanted first")?;
+        open.judge_weights(self.mode, "weighting")?;
+        let limit = self.mode.limit(usize::from(WEIGHTING_LIMIT));
+        let count = counted(open.later + 2, limit, "weightings in a component")?;
+        (open.later, open.stage, open.last_weight) = (open.later + 1, Stage::Weights, None);
+        self.bytes.extend(record(b'L', count - 1, 0, 0));
+        // Loose mode: without weights it stays so, and the record is a stray one.
+        if open.weighted {
+            self.bytes[open.head + 4..open.head + 6].copy_from_slice(&count.to_le_bytes());
+        }
+        Ok(())
+    }
+
     /// `name = 1 + 2*x1 + x2`: a record for each summand, as written.
     fn weights(&mut self, stage: Stage, words: &str) -> Answer<()> {
         let parts = words.split_once('=');
@@ -144,16 +165,13 @@ impl CertificateAssembly {
         Ok(())
     }
 
-    /// Strict mode: pairs, then weights, then marked weights, these only in a component with weights.
+    /// Strict mode: pairs, then weights, then marked weights.
     fn enter(&mut self, stage: Stage) -> Answer<()> {
         let mode = self.mode;
         let Some(open) = &mut self.open else {
             return mode.demand(false, || "a weight before the first component; a component is wanted first".into());
         };
-        mode.demand(open.weighted, || {
-            format!("a weight in the component without weights of line {}; none is wanted", open.line)
-        })?;
-        mode.demand(open.pairs > 0, || "a weight before the pairs; at least one pair is wanted first".into())?;
+        open.judge_weights(mode, "weight")?;
         mode.demand(stage >= open.stage, || "weight after marked; all weight lines are wanted first".into())?;
         if stage != open.stage {
             (open.stage, open.last_weight) = (stage, None);
@@ -193,6 +211,14 @@ impl CertificateAssembly {
 }
 
 impl Open {
+    /// Strict mode: weights stand after pairs, and only in a component with weights.
+    fn judge_weights(&self, mode: Mode, what: &str) -> Answer<()> {
+        mode.demand(self.weighted, || {
+            format!("a {what} in the component without weights of line {}; none is wanted", self.line)
+        })?;
+        mode.demand(self.pairs > 0, || format!("a {what} before the pairs; at least one pair is wanted first"))
+    }
+
     /// Strict mode: pairs come first and rise; without weights there is one.
     fn judge_pair(&self, pair: Pair, mode: Mode) -> Answer<()> {
         mode.demand(self.stage == Stage::Pairs, || "a pair after weights; all pairs are wanted first".into())?;

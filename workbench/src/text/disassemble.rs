@@ -219,6 +219,7 @@ fn certificate_as_components(file: &[u8], names: &Names) -> Option<String> {
             b'C' if b == 0 => "\n\ncomponent without weights".to_string(),
             b'C' => "\n\ncomponent".to_string(),
             b'P' => format!("\npair {a} {b}"),
+            b'L' => "\nweighting".to_string(),
             b'W' | b'M' if goes_on => format!(" + {}", summand_text(b, c)),
             b'W' => format!("\nweight {} = {}", names.symbol_text(a), summand_text(b, c)),
             b'M' => format!("\nmarked {} = {}", names.symbol_text(a), summand_text(b, c)),

@@ -14,7 +14,7 @@ use std::process::ExitCode;
 use workbench::checker::{judge_pack, pairs, PACK_LIMIT};
 use workbench::encode::{certificate_bytes, pack_bytes};
 use workbench::files::read;
-use workbench::generate::packs::{dense, Base};
+use workbench::generate::packs::{dense, dense_in_two, Base};
 use workbench::generate::{case, Case};
 use workbench::implementation::{Checker, Implementation};
 use workbench::library::LIBRARY;
@@ -113,8 +113,10 @@ fn slow_files() -> Vec<File> {
         ("chains, weights equal", slow::chains(437, false)),
         ("wide", slow::wide(384)),
         ("brink", slow::brink(335)),
+        ("eight weightings", slow::weightings(8)),
         ("2,047 pairs", dense(&mut Random::new(1), 1)),
         ("2,048 pairs", dense(&mut Random::new(1), 0)),
+        ("2,047 pairs, two weightings", dense_in_two(&mut Random::new(4), 1)),
     ];
     bases.into_iter().map(|(name, base)| file(name.to_string(), &base, None)).collect()
 }
