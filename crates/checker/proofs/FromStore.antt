@@ -129,9 +129,6 @@ module _ {p : System} {symbols rules : ℕ} {ar ss ns ms : List ℕ} (s : Stored
     abbrev ends : ℕ
     ends = getD ss (2 * i + 2) 0
 
-    pub sides-rise : (begins ≤ middle) × (middle ≤ ends)
-    sides-rise = (omega (arith, s .rules-at i h .left-long), omega (arith, s .rules-at i h .right-long))
-
     pub left-weighable : Weighable ar ns begins (middle - begins)
     left-weighable =
         let r = stored-rule p symbols rules ar ss ns ms s h in
@@ -169,9 +166,6 @@ module _ {p : System} {symbols rules : ℕ} {ar ss ns ms : List ℕ} (s : Stored
     unfolding pair-right
     right-inside =
         omega (arith, s .rules-at (q .at-rule) pair-in-rules .right-long, subterm-inside (rule p (q .at-rule) .right) (q .place) (pair-place p q is))
-
-    pub right-fits : right-begins ≤ right-ends
-    right-fits = omega (arith, right-inside)
 
     pub left-applied : Applied ar ns (getD ss (2 * q .at-rule) 0) (getD ss (2 * q .at-rule + 1) 0 - getD ss (2 * q .at-rule) 0)
     unfolding left-weighable

@@ -253,26 +253,10 @@ pub fn judge_pairs(
             let right = middle + r.b as usize;
             if rule != last {
                 sums = [0u64; SUMS];
-                weights::judging::marked_side(
-                    arities,
-                    table,
-                    nodes,
-                    left,
-                    middle - left,
-                    true,
-                    &mut sums,
-                );
+                weights::judging::marked_side(arities, table, nodes, left, middle, true, &mut sums);
                 last = rule;
             }
-            let v = weights::judging::judge_call(
-                arities,
-                table,
-                nodes,
-                right,
-                end - right,
-                true,
-                &sums,
-            );
+            let v = weights::judging::judge_call(arities, table, nodes, right, end, true, &sums);
             found = noted(found, v);
             let over = found.over;
             if over {

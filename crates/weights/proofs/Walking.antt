@@ -159,7 +159,7 @@ applied-low arities nodes at left w =
 
 -- what is still to be weighed of a kept application from its argument i on
 pub record Unweighed
-    (arities nodes table : List ℕ) (at left : ℕ) (w : Weighable arities nodes at left) (first k : ℕ) (skips : Bool) (n : ℕ) (start sums : List ℕ) (next i : ℕ) : Type 0 where
+    (arities nodes table : List ℕ) (at end : ℕ) (w : Weighable arities nodes at (end - at)) (first k : ℕ) (skips : Bool) (n : ℕ) (start sums : List ℕ) (next i : ℕ) : Type 0 where
   pub rest : Tree
   pub are : Arguments (w .system) nodes next (suc n - i) rest
   pub ends : next + length (flat rest) ≡ at + length (flat (w .term))
@@ -168,14 +168,14 @@ pub record Unweighed
       (rs ws : List Weight) → Row-is table first (getD nodes at 0) rs → Table-is table ws → Known-within skips k rs ws (w .term) →
       Sums-so-far rs ws (getD nodes at 0) k skips (w .term) rest start sums i
 
-module _ (arities nodes table : List ℕ) (at left : ℕ) (w : Weighable arities nodes at left) (first k : ℕ) (skips : Bool) (start : List ℕ) where
+module _ (arities nodes table : List ℕ) (at end : ℕ) (w : Weighable arities nodes at (end - at)) (first k : ℕ) (skips : Bool) (start : List ℕ) where
   -- before the first
   pub unweighed-all :
       getD nodes at 0 < 64 → length start ≡ 17 → (sums : List ℕ) → sums ≡ set start 0 (getD start 0 0 + k * getD table first 0) →
-      Unweighed arities nodes table at left w first k skips (code-arity arities (getD nodes at 0)) start sums (at + 1) 1
+      Unweighed arities nodes table at end w first k skips (code-arity arities (getD nodes at 0)) start sums (at + 1) 1
   unfolding flat
   unweighed-all low long sums e =
-      let below = root-symbol arities nodes at left w low in
+      let below = root-symbol arities nodes at (end - at) w low in
       let n : suc (code-arity arities (getD nodes at 0)) - 1 ≡ code-arity arities (getD nodes at 0) = omega arith in
       let l : length (flat (w .term)) ≡ suc (length (flat (below .arguments))) = ap (λ (t : Tree). length (flat t)) (below .applied) in
       record {
@@ -188,7 +188,7 @@ module _ (arities nodes table : List ℕ) (at left : ℕ) (w : Weighable arities
             rw (e, own) (sums-none rs ws (getD nodes at 0) k skips start (w .term) (below .arguments) (below .applied) long (known .below));
       }
 
-  module _ (n : ℕ) (sums : List ℕ) (next i : ℕ) (u : Unweighed arities nodes table at left w first k skips n start sums next i) where
+  module _ (n : ℕ) (sums : List ℕ) (next i : ℕ) (u : Unweighed arities nodes table at end w first k skips n start sums next i) where
     -- one is left at least
     module _ (more : i ≤ n) where
       pub head : Split (w .system) nodes next (n - i) (u .rest)
@@ -199,12 +199,10 @@ module _ (arities nodes table : List ℕ) (at left : ℕ) (w : Weighable arities
       rest-long = ap (λ (t : Tree). length (flat t)) (head .are) ∙ length-append (flat (head .first)) (flat (head .others))
 
       -- it has fewer nodes than the term
-      pub next-inside : (next - at ≤ left) × (left - (next - at) < left)
-      next-inside =
-          let l = rest-long in
-          (omega (arith, u .ends, u .after-root, w .fits), omega (arith, u .ends, u .after-root, w .fits, node-within arities nodes at left w))
+      pub next-inside : end - next < end - at
+      next-inside = let l = rest-long in omega (arith, u .ends, u .after-root, w .fits, node-within arities nodes at (end - at) w)
 
-      unfoldable pub next-argument : Weighable arities nodes next (left - (next - at))
+      unfoldable pub next-argument : Weighable arities nodes next (end - next)
       next-argument =
           record {
             system = w .system;
@@ -221,7 +219,7 @@ module _ (arities nodes table : List ℕ) (at left : ℕ) (w : Weighable arities
       -- it is weighed by the factor that the code takes
       module _
           (factor : ℕ) (taken : factor ≡ capped (k * getD table (first + i) 0)) (few : i ≤ 8) (after : List ℕ) (place : ℕ)
-          (a : Weighed arities nodes table next (left - (next - at)) next-argument factor skips sums after place) where
+          (a : Weighed arities nodes table next (end - next) next-argument factor skips sums after place) where
         first-sums :
             (rs ws : List Weight) → Row-is table first (getD nodes at 0) rs → Table-is table ws → Known-within skips k rs ws (w .term) →
             Sums-so-far rs ws (getD nodes at 0) k skips (w .term) (cons (head .first) (head .others)) start sums i
@@ -243,7 +241,7 @@ module _ (arities nodes table : List ℕ) (at left : ℕ) (w : Weighable arities
             argument-over rs ws (getD nodes at 0) k skips start (w .term) (head .first) (head .others)
             (term-not-list (w .system) (head .first) (head .is)) i sums (first-sums rs ws r t known) after (first-adds rs ws r t known) h
 
-        pub then-within : ltb limit (getD after 0 0) ≡ false → Unweighed arities nodes table at left w first k skips n start after place (i + 1)
+        pub then-within : ltb limit (getD after 0 0) ≡ false → Unweighed arities nodes table at end w first k skips n start after place (i + 1)
         unfolding next-argument
         then-within h =
             let l = rest-long in
@@ -273,7 +271,7 @@ module _ (arities nodes table : List ℕ) (at left : ℕ) (w : Weighable arities
           (rs ws : List Weight) → Row-is table first (getD nodes at 0) rs → Table-is table ws → Known-within skips k rs ws (w .term) →
           Adds-to (rooted-over rs ws (w .term)) (scaled-sum k (numbers (rooted rs ws (w .term))) start) sums
       all-weighed low one long within rs ws r t known =
-          let below = root-symbol arities nodes at left w low in
+          let below = root-symbol arities nodes at (end - at) w low in
           sums-all rs ws (getD nodes at 0) k skips start (w .term) i sums (rw none-left at (u .so-far rs ws r t known)) one long
           (rooted-sixteen rs ws (w .term) (getD nodes at 0) (below .arguments) (below .applied)) within
 
@@ -281,18 +279,15 @@ module _ (arities nodes table : List ℕ) (at left : ℕ) (w : Weighable arities
 
 -- `after` are the sums, and `next` the place, that adding k times the application kept at `at` comes to
 pub record Formed-as
-    (arities nodes table : List ℕ) (at left first k : ℕ) (skips : Bool) (start after : List ℕ) (next : ℕ) : Type 0 where
+    (arities nodes table : List ℕ) (at end first k : ℕ) (skips : Bool) (start after : List ℕ) (next : ℕ) : Type 0 where
   pub long : length after ≡ 17
   pub within : ltb limit (getD after 0 0) ≡ false → Sums after
-  pub ends : (w : Weighable arities nodes at left) → ltb limit (getD after 0 0) ≡ false → next ≡ at + length (flat (w .term))
+  pub ends : (w : Weighable arities nodes at (end - at)) → ltb limit (getD after 0 0) ≡ false → next ≡ at + length (flat (w .term))
   pub means :
-      (w : Weighable arities nodes at left) (rs ws : List Weight) → Row-is table first (getD nodes at 0) rs → Table-is table ws →
+      (w : Weighable arities nodes at (end - at)) (rs ws : List Weight) → Row-is table first (getD nodes at 0) rs → Table-is table ws →
       Known-within skips k rs ws (w .term) → Adds-to (rooted-over rs ws (w .term)) (scaled-sum k (numbers (rooted rs ws (w .term))) start) after
 
-module _ (arities nodes table : List ℕ) (at left first k : ℕ) (skips : Bool) (start : List ℕ) (s : Sums start) (low : getD nodes at 0 < 64) where
-  first-told : ltb limit (getD start 0 0) ≡ false
-  first-told = all-told start (s .long) (s .within) .told ∙ s .within
-
+module _ (arities nodes table : List ℕ) (at end first k : ℕ) (skips : Bool) (start : List ℕ) (s : Sums start) (low : getD nodes at 0 < 64) where
   -- UNDER THE FACTOR 0
   module _ (zero : k ≡ 0) where
     stays : (rs ws : List Weight) (t : Tree) → rooted-over rs ws t ≡ false → Adds-to (rooted-over rs ws t) (scaled-sum k (numbers (rooted rs ws t)) start) start
@@ -300,8 +295,8 @@ module _ (arities nodes table : List ℕ) (at left first k : ℕ) (skips : Bool)
 
     -- the limit is known not to be passed
     pub zero-skipped :
-        skips ≡ true → (next : ℕ) → ((w : Weighable arities nodes at left) → next ≡ at + length (flat (w .term))) →
-        Formed-as arities nodes table at left first k skips start start next
+        skips ≡ true → (next : ℕ) → ((w : Weighable arities nodes at (end - at)) → next ≡ at + length (flat (w .term))) →
+        Formed-as arities nodes table at end first k skips start start next
     zero-skipped e next ends =
         record {
           long = s .long;
@@ -311,10 +306,10 @@ module _ (arities nodes table : List ℕ) (at left first k : ℕ) (skips : Bool)
         }
 
     -- or is asked in fresh sums
-    module _ (fresh : List ℕ) (next : ℕ) (f : Formed-as arities nodes table at left first 1 false (replicate 17 0) fresh next) where
-      asked : (w : Weighable arities nodes at left) (rs ws : List Weight) → Row-is table first (getD nodes at 0) rs → Table-is table ws → ltb limit (getD fresh 0 0) ≡ rooted-over rs ws (w .term)
+    module _ (fresh : List ℕ) (next : ℕ) (f : Formed-as arities nodes table at end first 1 false (replicate 17 0) fresh next) where
+      asked : (w : Weighable arities nodes at (end - at)) (rs ws : List Weight) → Row-is table first (getD nodes at 0) rs → Table-is table ws → ltb limit (getD fresh 0 0) ≡ rooted-over rs ws (w .term)
       asked w rs ws r t =
-          let below = root-symbol arities nodes at left w low in
+          let below = root-symbol arities nodes at (end - at) w low in
           let x = rooted rs ws (w .term) in
           let sixteen = rooted-sixteen rs ws (w .term) (getD nodes at 0) (below .arguments) (below .applied) in
           let once : scaled-sum 1 (numbers x) (replicate 17 0) ≡ numbers x =
@@ -324,7 +319,7 @@ module _ (arities nodes table : List ℕ) (at left first k : ℕ) (skips : Bool)
           ∙ ap (λ b. rooted-over rs ws (w .term) || b) (numbers-over x)
           ∙ root-tells rs ws (w .term) (getD nodes at 0) (below .arguments) (below .applied)
 
-      pub zero-over : ltb limit (getD fresh 0 0) ≡ true → Formed-as arities nodes table at left first k skips start (set start 0 (limit + 1)) next
+      pub zero-over : ltb limit (getD fresh 0 0) ≡ true → Formed-as arities nodes table at end first k skips start (set start 0 (limit + 1)) next
       zero-over h =
           let past : ltb limit (getD (set start 0 (limit + 1)) 0 0) ≡ true = over-told true start start (s .long) refl .told in
           record {
@@ -334,7 +329,7 @@ module _ (arities nodes table : List ℕ) (at left first k : ℕ) (skips : Bool)
             means = λ w rs ws r t known. over-told _ _ start (s .long) (or-left _ (sym (asked w rs ws r t) ∙ h));
           }
 
-      pub zero-within : ltb limit (getD fresh 0 0) ≡ false → Formed-as arities nodes table at left first k skips start start next
+      pub zero-within : ltb limit (getD fresh 0 0) ≡ false → Formed-as arities nodes table at end first k skips start start next
       zero-within h =
           record {
             long = s .long;
@@ -345,14 +340,14 @@ module _ (arities nodes table : List ℕ) (at left first k : ℕ) (skips : Bool)
 
   -- THE ROOT'S CONSTANT
   module _ (sums : List ℕ) (a : Adds-to false (set start 0 (getD start 0 0 + k * getD table first 0)) sums) where
-    pub root-over : ltb limit (getD sums 0 0) ≡ true → (next : ℕ) → Formed-as arities nodes table at left first k skips start sums next
+    pub root-over : ltb limit (getD sums 0 0) ≡ true → (next : ℕ) → Formed-as arities nodes table at end first k skips start sums next
     root-over h next =
         record {
           long = a .long;
           within = λ e. absurd (true≢false (sym h ∙ e));
           ends = λ w e. absurd (true≢false (sym h ∙ e));
           means = λ w rs ws r t known.
-              let u = unweighed-all arities nodes table at left w first k skips start low (s .long) _ refl in
+              let u = unweighed-all arities nodes table at end w first k skips start low (s .long) _ refl in
               let past : any-above (set start 0 (getD start 0 0 + k * getD table first 0)) ≡ true = sym (a .told) ∙ h in
               let whole : (rooted-over rs ws (w .term) || any-above (scaled-sum k (numbers (rooted rs ws (w .term))) start)) ≡ true =
               or-right (rooted-over rs ws (w .term)) (so-far-over rs ws (getD nodes at 0) k skips start (w .term) (u .rest) _ 1 (u .so-far rs ws r t known) past) in
@@ -361,46 +356,46 @@ module _ (arities nodes table : List ℕ) (at left first k : ℕ) (skips : Bool)
 
     -- and no arguments
     pub root-alone :
-        ltb limit (getD sums 0 0) ≡ false → 1 ≤ k → code-arity arities (getD nodes at 0) ≡ 0 → Formed-as arities nodes table at left first k skips start sums (at + 1)
+        ltb limit (getD sums 0 0) ≡ false → 1 ≤ k → code-arity arities (getD nodes at 0) ≡ 0 → Formed-as arities nodes table at end first k skips start sums (at + 1)
     root-alone h one none =
-        let u : (w : Weighable arities nodes at left) → Unweighed arities nodes table at left w first k skips (code-arity arities (getD nodes at 0)) start sums (at + 1) 1 =
-        λ w. unweighed-all arities nodes table at left w first k skips start low (s .long) sums (a .are h) in
+        let u : (w : Weighable arities nodes at (end - at)) → Unweighed arities nodes table at end w first k skips (code-arity arities (getD nodes at 0)) start sums (at + 1) 1 =
+        λ w. unweighed-all arities nodes table at end w first k skips start low (s .long) sums (a .are h) in
         let within = adds-sums false _ sums a h in
         record {
           long = a .long;
           within = λ _. within;
-          ends = λ w _. all-read arities nodes table at left w first k skips start _ sums (at + 1) 1 (u w) (omega arith);
-          means = λ w. all-weighed arities nodes table at left w first k skips start _ sums (at + 1) 1 (u w) (omega arith) low one (s .long) within;
+          ends = λ w _. all-read arities nodes table at end w first k skips start _ sums (at + 1) 1 (u w) (omega arith);
+          means = λ w. all-weighed arities nodes table at end w first k skips start _ sums (at + 1) 1 (u w) (omega arith) low one (s .long) within;
         }
 
   -- AN ARGUMENT
   module _
-      (n : ℕ) (sums : List ℕ) (next i : ℕ) (u : (w : Weighable arities nodes at left) → Unweighed arities nodes table at left w first k skips n start sums next i)
+      (n : ℕ) (sums : List ℕ) (next i : ℕ) (u : (w : Weighable arities nodes at (end - at)) → Unweighed arities nodes table at end w first k skips n start sums next i)
       (more : i ≤ n) (few : i ≤ 8) (factor : ℕ) (taken : factor ≡ capped (k * getD table (first + i) 0)) (after : List ℕ) (place : ℕ)
-      (v : (w : Weighable arities nodes at left) →
-      Weighed arities nodes table next (left - (next - at)) (next-argument arities nodes table at left w first k skips start n sums next i (u w) more) factor skips sums after place)
+      (v : (w : Weighable arities nodes at (end - at)) →
+      Weighed arities nodes table next (end - next) (next-argument arities nodes table at end w first k skips start n sums next i (u w) more) factor skips sums after place)
       (long : length after ≡ 17) (within : ltb limit (getD after 0 0) ≡ false → Sums after) where
-    pub argument-passes : ltb limit (getD after 0 0) ≡ true → Formed-as arities nodes table at left first k skips start after place
+    pub argument-passes : ltb limit (getD after 0 0) ≡ true → Formed-as arities nodes table at end first k skips start after place
     argument-passes h =
         record {
           long = long;
           within = within;
           ends = λ w e. absurd (true≢false (sym h ∙ e));
-          means = λ w. then-over arities nodes table at left w first k skips start n sums next i (u w) more factor taken few after place (v w) h;
+          means = λ w. then-over arities nodes table at end w first k skips start n sums next i (u w) more factor taken few after place (v w) h;
         }
 
     pub argument-added :
-        ltb limit (getD after 0 0) ≡ false → (w : Weighable arities nodes at left) → Unweighed arities nodes table at left w first k skips n start after place (i + 1)
-    argument-added h w = then-within arities nodes table at left w first k skips start n sums next i (u w) more factor taken few after place (v w) h
+        ltb limit (getD after 0 0) ≡ false → (w : Weighable arities nodes at (end - at)) → Unweighed arities nodes table at end w first k skips n start after place (i + 1)
+    argument-added h w = then-within arities nodes table at end w first k skips start n sums next i (u w) more factor taken few after place (v w) h
 
     -- the last one
-    pub argument-last : i ≡ n → 1 ≤ k → Formed-as arities nodes table at left first k skips start after place
+    pub argument-last : i ≡ n → 1 ≤ k → Formed-as arities nodes table at end first k skips start after place
     argument-last last one =
         by-test (ltb limit (getD after 0 0))
         argument-passes
         (λ h. record {
           long = long;
           within = within;
-          ends = λ w _. all-read arities nodes table at left w first k skips start n after place (i + 1) (argument-added h w) (omega arith);
-          means = λ w. all-weighed arities nodes table at left w first k skips start n after place (i + 1) (argument-added h w) (omega arith) low one (s .long) (within h);
+          ends = λ w _. all-read arities nodes table at end w first k skips start n after place (i + 1) (argument-added h w) (omega arith);
+          means = λ w. all-weighed arities nodes table at end w first k skips start n after place (i + 1) (argument-added h w) (omega arith) low one (s .long) (within h);
         })

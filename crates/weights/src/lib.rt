@@ -12,7 +12,7 @@ use terms::Symbol;
 ghost use mathlib.Core.Path.{_≡_};
 ghost use mathlib.Core.Bool.{false};
 ghost use mathlib.Core.List.{List};
-ghost use Prim.Native.Nat.{_+_, _≤_, _<_};
+ghost use Prim.Native.Nat.{_+_, _-_, _≤_, _<_};
 ghost use lib.Dec.{ltb};
 ghost use lib.ListN.{length, getD};
 ghost use Rattle.terms.specs.Kept.{nodes-room};
@@ -50,7 +50,7 @@ fn arity(x: u8) -> usize
     x as usize
 }
 
-// Adds `factor` times the polynomial of the term kept at `at`, an application of at most `left` nodes, its root's weights in the
+// Adds `factor` times the polynomial of the term kept at `at`, an application that ends before `end`, its root's weights in the
 // table from `row` on. Answers the place after it. As soon as a number passes the limit, the first sum does, and nothing else is
 // known. Under the factor 0 only the limit is asked, and not even that where `skips` says that it is known. The parameters used
 // most come first: six go in registers.
@@ -62,24 +62,24 @@ pub fn form_at(
     table: &[u16; CELLS],
     nodes: &[u8; NODES_ROOM],
     arities: &[u8; MOST_SYMBOLS],
-    left: usize,
+    end: usize,
     skips: bool,
 ) -> usize
-    requires { ⌜ Weighable (now arities) (now nodes) at left × (getD (now nodes) at 0 < 64) × (row + 8 < 1152) × (factor ≤ limit + 1) × Sums (now sums) × (length (now nodes) ≤ nodes-room) ⌝ }
+    requires { ⌜ Weighable (now arities) (now nodes) at (end - at) × (getD (now nodes) at 0 < 64) × (row + 8 < 1152) × (factor ≤ limit + 1) × Sums (now sums) × (length (now nodes) ≤ nodes-room) ⌝ }
     ensures bounded { λ _. ⌜ (length (now (sums .exit)) ≡ 17) × (ltb limit (getD (now (sums .exit)) 0 0) ≡ false → Sums (now (sums .exit))) ⌝ }
-    ensures ends { λ r. ⌜ ((w : Weighable (now (arities .entry)) (now (nodes .entry)) at left) → ltb limit (getD (now (sums .exit)) 0 0) ≡ false → r ≡ at + length (flat (w .term))) ⌝ }
-    ensures means { λ r. ⌜ ((w : Weighable (now (arities .entry)) (now (nodes .entry)) at left) (rs ws : List Weight) → Row-is (now (table .entry)) row (getD (now (nodes .entry)) at 0) rs → Table-is (now (table .entry)) ws → Known-within skips factor rs ws (w .term) → Adds-to (rooted-over rs ws (w .term)) (scaled-sum factor (numbers (rooted rs ws (w .term))) (now (sums .entry))) (now (sums .exit))) ⌝ }
+    ensures ends { λ r. ⌜ ((w : Weighable (now (arities .entry)) (now (nodes .entry)) at (end - at)) → ltb limit (getD (now (sums .exit)) 0 0) ≡ false → r ≡ at + length (flat (w .term))) ⌝ }
+    ensures means { λ r. ⌜ ((w : Weighable (now (arities .entry)) (now (nodes .entry)) at (end - at)) (rs ws : List Weight) → Row-is (now (table .entry)) row (getD (now (nodes .entry)) at 0) rs → Table-is (now (table .entry)) ws → Known-within skips factor rs ws (w .term) → Adds-to (rooted-over rs ws (w .term)) (scaled-sum factor (numbers (rooted rs ws (w .term))) (now (sums .entry))) (now (sums .exit))) ⌝ }
 {
     if factor == 0 {
         if skips {
             return terms::skip(arities, nodes, at);
         }
         let mut fresh = [0u64; SUMS];
-        let end = form_at(&mut fresh, 1, at, row, table, nodes, arities, left, false);
+        let after = form_at(&mut fresh, 1, at, row, table, nodes, arities, end, false);
         if sums::over(&fresh) {
             sums::set_over(sums);
         }
-        return end;
+        return after;
     }
     sums::add(sums, 0, factor * wide(table[row]));
     if sums::over(sums) {
@@ -105,17 +105,7 @@ pub fn form_at(
                 sums::add(sums, 0, k * wide(table[first]));
                 next = next + 1;
             } else {
-                next = form_at(
-                    sums,
-                    k,
-                    next,
-                    first,
-                    table,
-                    nodes,
-                    arities,
-                    left - (next - at),
-                    skips,
-                );
+                next = form_at(sums, k, next, first, table, nodes, arities, end, skips);
             }
         }
         if sums::over(sums) {
@@ -136,15 +126,5 @@ pub fn form_at(
         return next + 1;
     }
     // The last call of all, so that a chain of unary symbols is a loop.
-    form_at(
-        sums,
-        k,
-        next,
-        first,
-        table,
-        nodes,
-        arities,
-        left - (next - at),
-        skips,
-    )
+    form_at(sums, k, next, first, table, nodes, arities, end, skips)
 }

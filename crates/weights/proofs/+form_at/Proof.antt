@@ -1,5 +1,5 @@
 -- `weights::form_at` meets its contract. It calls itself on fewer nodes, and once on as many, from the factor 0 with the factor 1:
--- so twice `left`, and one more under the factor 0, is its measure. The loop's invariant: whatever sums the loop's first sums came
+-- so twice the nodes up to `end`, and one more under the factor 0, are its measure. The loop's invariant: whatever sums the loop's first sums came
 -- from, those of now come to the term's polynomial together with the arguments that are still to be weighed.
 use mathlib.Core.Path.{_≡_, refl, sym, ap, _∙_}
 use mathlib.Core.Bool.{false}
@@ -36,7 +36,7 @@ use Rattle.weights.proofs.+form_at.{statement}
 use Rattle.weights.proofs.+form_at.Tie.{close}
 
 abbrev μ-form-at : Measures 4 form-at-kinds.ps ℕ
-μ-form-at κs a = 2 * a .1 .1 .1 .1 .1 .1 .1 .0 + (1 - a .1 .0)
+μ-form-at κs a = 2 * (a .1 .1 .1 .1 .1 .1 .1 .0 - a .1 .1 .0) + (1 - a .1 .0)
 
 -- what it is given at the measure t, and what a call of it asks below t
 abbrev given : ℕ → In 4 form-at-kinds.ps
@@ -69,13 +69,13 @@ called t = (
 )
 
 abbrev Inv-loop : lts.InvT-loop
-Inv-loop sums₀ factor at row table nodes arities left skips n next₀ i₀ sums next i =
+Inv-loop sums₀ factor at row table nodes arities end skips n next₀ i₀ sums next i =
     (n ≤ 8) × (1 ≤ i) × (i ≤ n) × (1 ≤ factor) × Sums sums
-    × ((w : Weighable arities nodes at left) (start : List ℕ) → length start ≡ 17 → sums₀ ≡ set start 0 (getD start 0 0 + factor * getD table row 0) →
-    Unweighed arities nodes table at left w row factor skips n start sums next i)
+    × ((w : Weighable arities nodes at (end - at)) (start : List ℕ) → length start ≡ 17 → sums₀ ≡ set start 0 (getD start 0 0 + factor * getD table row 0) →
+    Unweighed arities nodes table at end w row factor skips n start sums next i)
 
 abbrev μ-loop : lts.MeasureT-loop
-μ-loop sums₀ factor at row table nodes arities left skips n next₀ i₀ sums next i = n - i
+μ-loop sums₀ factor at row table nodes arities end skips n next₀ i₀ sums next i = n - i
 
 module _ (t : ℕ) where
   -- the entry, where the root's constant is within the limit, and the loop's head
@@ -100,7 +100,7 @@ module _ (t : ℕ) where
   -- what it answers, part by part
   abbrev Answered : Entry → (after : List ℕ) → (next : ℕ) → Type 0
   Answered s after next =
-      Formed-as (s .args .arities .now) (s .args .nodes .now) (s .args .table .now) (s .args .at) (s .args .left) (s .args .row) (s .args .factor) (s .args .skips)
+      Formed-as (s .args .arities .now) (s .args .nodes .now) (s .args .table .now) (s .args .at) (s .args .end) (s .args .row) (s .args .factor) (s .args .skips)
       (s .args .sums .now) after next
 
   -- UNDER THE FACTOR 0
@@ -118,7 +118,7 @@ module _ (t : ℕ) where
       let s = c .before .before .before .before .before in
       let a = s .args in
       let f : Answered s (a .sums .now) (c .skip .result) =
-      zero-skipped (a .arities .now) (a .nodes .now) (a .table .now) (a .at) (a .left) (a .row) (a .factor) (a .skips) (a .sums .now) (s .pre .1 .4) (s .pre .1 .1)
+      zero-skipped (a .arities .now) (a .nodes .now) (a .table .now) (a .at) (a .end) (a .row) (a .factor) (a .skips) (a .sums .now) (s .pre .1 .4) (s .pre .1 .1)
       (c .before .before .before .before .if1 .taken) (c .before .before .before .if2 .taken) _
       (λ w.
       c .skip .ensures
@@ -138,7 +138,7 @@ module _ (t : ℕ) where
   fresh-formed :
       (c : Fresh) →
       let a = c .before .before .before .before .args in
-      Formed-as (a .arities .now) (a .nodes .now) (a .table .now) (a .at) (a .left) (a .row) 1 false (replicate 17 0) (c .form-at .last .0) (c .form-at .result)
+      Formed-as (a .arities .now) (a .nodes .now) (a .table .now) (a .at) (a .end) (a .row) 1 false (replicate 17 0) (c .form-at .last .0) (c .form-at .result)
   fresh-formed c =
       let e = c .form-at .ensures in
       record { long = e .0 .0; within = e .0 .1; ends = e .1 .0; means = e .1 .1 }
@@ -149,7 +149,7 @@ module _ (t : ℕ) where
       let s = g .before .before .before .before in
       let a = s .args in
       let f =
-      zero-over (a .arities .now) (a .nodes .now) (a .table .now) (a .at) (a .left) (a .row) (a .factor) (a .skips) (a .sums .now) (s .pre .1 .4) (s .pre .1 .1)
+      zero-over (a .arities .now) (a .nodes .now) (a .table .now) (a .at) (a .end) (a .row) (a .factor) (a .skips) (a .sums .now) (s .pre .1 .4) (s .pre .1 .1)
       (g .before .before .before .if1 .taken) _ _ (fresh-formed g) (sym (c .before .before .before .over .ensures) ∙ c .before .before .if3 .taken) in
       rw (c .set-over .ensures) ((f .long, f .within), (f .ends, f .means))
 
@@ -159,7 +159,7 @@ module _ (t : ℕ) where
       let s = g .before .before .before .before in
       let a = s .args in
       let f =
-      zero-within (a .arities .now) (a .nodes .now) (a .table .now) (a .at) (a .left) (a .row) (a .factor) (a .skips) (a .sums .now) (s .pre .1 .4) (s .pre .1 .1)
+      zero-within (a .arities .now) (a .nodes .now) (a .table .now) (a .at) (a .end) (a .row) (a .factor) (a .skips) (a .sums .now) (s .pre .1 .4) (s .pre .1 .1)
       (g .before .before .before .if1 .taken) _ _ (fresh-formed g) (sym (c .before .over .ensures) ∙ c .if3 .left) in
       ((f .long, f .within), (f .ends, f .means))
 
@@ -196,7 +196,7 @@ module _ (t : ℕ) where
       let s = c .before .before .before .before .before .before .before .before in
       let a = s .args in
       let f =
-      root-over (a .arities .now) (a .nodes .now) (a .table .now) (a .at) (a .left) (a .row) (a .factor) (a .skips) (a .sums .now) (s .pre .1 .4) (s .pre .1 .1) _
+      root-over (a .arities .now) (a .nodes .now) (a .table .now) (a .at) (a .end) (a .row) (a .factor) (a .skips) (a .sums .now) (s .pre .1 .4) (s .pre .1 .1) _
       (constant-added (c .before .before .before)) (sym (c .before .over2 .ensures) ∙ c .if4 .taken) _ in
       ((f .long, f .within), (f .ends, f .means))
 
@@ -222,7 +222,7 @@ module _ (t : ℕ) where
       let s = from-rooted r in
       let a = s .args in
       let f =
-      root-alone (a .arities .now) (a .nodes .now) (a .table .now) (a .at) (a .left) (a .row) (a .factor) (a .skips) (a .sums .now) (s .pre .1 .4) (s .pre .1 .1) _
+      root-alone (a .arities .now) (a .nodes .now) (a .table .now) (a .at) (a .end) (a .row) (a .factor) (a .skips) (a .sums .now) (s .pre .1 .4) (s .pre .1 .1) _
       (constant-added (r .before .before .before)) (constant-within r) (factor-some r) (sym (arity-is _ _ (s .pre .1 .1)) ∙ sym (c .before .arity .ensures .0) ∙ c .if5 .taken) in
       ((f .long, f .within), (f .ends, f .means))
 
@@ -241,7 +241,7 @@ module _ (t : ℕ) where
         omega (arith, c .if5 .left),
         factor-some r,
         adds-sums false _ _ added (constant-within r),
-        λ w start l e. rw n (unweighed-all (a .arities .now) (a .nodes .now) (a .table .now) (a .at) (a .left) w (a .row) (a .factor) (a .skips) start (s .pre .1 .1) l _ e),
+        λ w start l e. rw n (unweighed-all (a .arities .now) (a .nodes .now) (a .table .now) (a .at) (a .end) w (a .row) (a .factor) (a .skips) start (s .pre .1 .1) l _ e),
       )
 
   -- AN ARGUMENT
@@ -250,8 +250,8 @@ module _ (t : ℕ) where
   unweighed :
       (l : Head) →
       let a = from-head l .args in
-      (w : Weighable (a .arities .now) (a .nodes .now) (a .at) (a .left)) →
-      Unweighed (a .arities .now) (a .nodes .now) (a .table .now) (a .at) (a .left) w (a .row) (a .factor) (a .skips) (l .before .before .arity .result) (a .sums .now)
+      (w : Weighable (a .arities .now) (a .nodes .now) (a .at) (a .end - a .at)) →
+      Unweighed (a .arities .now) (a .nodes .now) (a .table .now) (a .at) (a .end) w (a .row) (a .factor) (a .skips) (l .before .before .arity .result) (a .sums .now)
       (l .loop .sums) (l .loop .next) (l .loop .i)
   unweighed l w =
       let r = to-rooted l in
@@ -264,18 +264,16 @@ module _ (t : ℕ) where
   argument :
       (l : Head) → l .loop .i ≤ count l →
       let a = from-head l .args in
-      Weighable (a .arities .now) (a .nodes .now) (l .loop .next) (a .left - (l .loop .next - a .at))
+      Weighable (a .arities .now) (a .nodes .now) (l .loop .next) (a .end - l .loop .next)
   argument l more =
       let a = from-head l .args in
-      next-argument (a .arities .now) (a .nodes .now) (a .table .now) (a .at) (a .left) (from-head l .pre .1 .0) (a .row) (a .factor) (a .skips) (a .sums .now) (count l)
+      next-argument (a .arities .now) (a .nodes .now) (a .table .now) (a .at) (a .end) (from-head l .pre .1 .0) (a .row) (a .factor) (a .skips) (a .sums .now) (count l)
       (l .loop .sums) (l .loop .next) (l .loop .i) (unweighed l (from-head l .pre .1 .0)) more
 
   -- it begins within the nodes, after the root, and has fewer than the term
   record Inside (l : Head) : Type 0 where
     pub kept : l .loop .next < 4096
-    pub behind : from-head l .args .at ≤ l .loop .next
-    pub fits : l .loop .next - from-head l .args .at ≤ from-head l .args .left
-    pub fewer : from-head l .args .left - (l .loop .next - from-head l .args .at) < from-head l .args .left
+    pub fewer : from-head l .args .end - l .loop .next < from-head l .args .end - from-head l .args .at
     pub byte : getD (from-head l .args .nodes .now) (l .loop .next) 0 < 80
     pub cell : from-head l .args .row + l .loop .i < 1152
 
@@ -285,13 +283,11 @@ module _ (t : ℕ) where
       let a = s .args in
       let u = unweighed l (s .pre .1 .0) in
       let n =
-      next-inside (a .arities .now) (a .nodes .now) (a .table .now) (a .at) (a .left) (s .pre .1 .0) (a .row) (a .factor) (a .skips) (a .sums .now) (count l)
+      next-inside (a .arities .now) (a .nodes .now) (a .table .now) (a .at) (a .end) (s .pre .1 .0) (a .row) (a .factor) (a .skips) (a .sums .now) (count l)
       (l .loop .sums) (l .loop .next) (l .loop .i) u more in
       record {
         kept = omega (arith, s .pre .1 .5, node-within _ _ _ _ (argument l more) .0);
-        behind = omega (arith, u .after-root);
-        fits = n .0;
-        fewer = n .1;
+        fewer = n;
         byte = code-small _ _ _ _ (argument l more);
         cell = omega (arith, s .pre .1 .2, l .loop .inv .0, more);
       }
@@ -345,12 +341,6 @@ module _ (t : ℕ) where
   add-next-3 : lts.Need-add-next-3 (called t) (given t) form-at.Post Inv-loop μ-loop
   add-next-3 c = omega (arith, (inside (c .before .before .before .before .before .before .before .before .before .before .before .before .before) (let h = c .before .before .before .before .before .before .before .before .before .before .before .before .loop-test .taken in omega arith)) .kept)
 
-  sub-form-at : lts.Need-sub-form-at (called t) (given t) form-at.Post Inv-loop μ-loop
-  sub-form-at c = (inside (c .before .before .before .before .before .before .before .before .before .before) (let h = c .before .before .before .before .before .before .before .before .before .loop-test .taken in omega arith)) .behind
-
-  sub-form-at-2 : lts.Need-sub-form-at-2 (called t) (given t) form-at.Post Inv-loop μ-loop
-  sub-form-at-2 c = (inside (c .before .before .before .before .before .before .before .before .before .before) (let h = c .before .before .before .before .before .before .before .before .before .loop-test .taken in omega arith)) .fits
-
   form-at-requires-2 : lts.Need-form-at-requires-2 (called t) (given t) form-at.Post Inv-loop μ-loop
   form-at-requires-2 c κs =
       let l = c .before .before .before .before .before .before .before .before .before .before in
@@ -370,8 +360,8 @@ module _ (t : ℕ) where
       (c : Weighing) →
       let l = c .before .before .before .before .before .before in
       let a = from-head l .args in
-      (v : Weighable (a .arities .now) (a .nodes .now) (l .loop .next) (a .left - (l .loop .next - a .at))) →
-      Weighed (a .arities .now) (a .nodes .now) (a .table .now) (l .loop .next) (a .left - (l .loop .next - a .at)) v (c .before .cap .result) (a .skips)
+      (v : Weighable (a .arities .now) (a .nodes .now) (l .loop .next) (a .end - l .loop .next)) →
+      Weighed (a .arities .now) (a .nodes .now) (a .table .now) (l .loop .next) (a .end - l .loop .next) v (c .before .cap .result) (a .skips)
       (l .loop .sums) (c .if6 .sums) (c .if6 .next)
   argument-weighed c v =
       let l = c .before .before .before .before .before .before in
@@ -413,7 +403,7 @@ module _ (t : ℕ) where
       let more = more-left (j .before .before .before .before .before) in
       let v = argument-weighed j (argument l more) in
       let f =
-      argument-passes (a .arities .now) (a .nodes .now) (a .table .now) (a .at) (a .left) (a .row) (a .factor) (a .skips) (a .sums .now) (s .pre .1 .4) (s .pre .1 .1) (count l)
+      argument-passes (a .arities .now) (a .nodes .now) (a .table .now) (a .at) (a .end) (a .row) (a .factor) (a .skips) (a .sums .now) (s .pre .1 .4) (s .pre .1 .1) (count l)
       (l .loop .sums) (l .loop .next) (l .loop .i) (unweighed l) more (omega (arith, l .loop .inv .0, more)) _ (argument-factor j) _ _ (λ w. argument-weighed j _)
       (v .long) (v .within) (sym (c .before .over3 .ensures) ∙ c .if8 .taken) in
       ((f .long, f .within), (f .ends, f .means))
@@ -440,7 +430,7 @@ module _ (t : ℕ) where
         v .within h,
         λ w start long e.
             let u = l .loop .inv .5 w start long e in
-            then-within (a .arities .now) (a .nodes .now) (a .table .now) (a .at) (a .left) w (a .row) (a .factor) (a .skips) start (count l) (l .loop .sums) (l .loop .next) (l .loop .i)
+            then-within (a .arities .now) (a .nodes .now) (a .table .now) (a .at) (a .end) w (a .row) (a .factor) (a .skips) start (count l) (l .loop .sums) (l .loop .next) (l .loop .i)
             u more _ (argument-factor j) (omega (arith, l .loop .inv .0, more)) _ _ (argument-weighed j _) h,
       )
 
@@ -496,13 +486,13 @@ module _ (t : ℕ) where
       let s = from-head l in
       let a = s .args in
       let more = l .loop .inv .2 in
-      let weighed : (v : Weighable (a .arities .now) (a .nodes .now) (l .loop .next) (a .left - (l .loop .next - a .at))) →
-      Weighed (a .arities .now) (a .nodes .now) (a .table .now) (l .loop .next) (a .left - (l .loop .next - a .at)) v (j .cap2 .result) (a .skips) (l .loop .sums) _ _ =
+      let weighed : (v : Weighable (a .arities .now) (a .nodes .now) (l .loop .next) (a .end - l .loop .next)) →
+      Weighed (a .arities .now) (a .nodes .now) (a .table .now) (l .loop .next) (a .end - l .loop .next) v (j .cap2 .result) (a .skips) (l .loop .sums) _ _ =
       λ v.
       variable-weighed (a .arities .now) (a .nodes .now) (a .table .now) (l .loop .next) _ v _ (a .skips) (l .loop .sums) _ (l .loop .inv .4 .long)
       (c .before .before .if9 .taken) (c .add4 .ensures) in
       let f =
-      argument-last (a .arities .now) (a .nodes .now) (a .table .now) (a .at) (a .left) (a .row) (a .factor) (a .skips) (a .sums .now) (s .pre .1 .4) (s .pre .1 .1) (count l)
+      argument-last (a .arities .now) (a .nodes .now) (a .table .now) (a .at) (a .end) (a .row) (a .factor) (a .skips) (a .sums .now) (s .pre .1 .4) (s .pre .1 .1) (count l)
       (l .loop .sums) (l .loop .next) (l .loop .i) (unweighed l) more (omega (arith, l .loop .inv .0, more)) _ (last-factor j) _ _ (λ w. weighed _)
       (weighed (argument l more) .long) (weighed (argument l more) .within) (is-last j) (l .loop .inv .3) in
       ((f .long, f .within), (f .ends, f .means))
@@ -537,22 +527,16 @@ module _ (t : ℕ) where
       let more = l .loop .inv .2 in
       let own = c .before .wide5 .ensures in
       let first = c .before .before .before .before .before .before .row-of2 .ensures in
-      let weighed : (v : Weighable (a .arities .now) (a .nodes .now) (l .loop .next) (a .left - (l .loop .next - a .at))) →
-      Weighed (a .arities .now) (a .nodes .now) (a .table .now) (l .loop .next) (a .left - (l .loop .next - a .at)) v (j .cap2 .result) (a .skips) (l .loop .sums) _ _ =
+      let weighed : (v : Weighable (a .arities .now) (a .nodes .now) (l .loop .next) (a .end - l .loop .next)) →
+      Weighed (a .arities .now) (a .nodes .now) (a .table .now) (l .loop .next) (a .end - l .loop .next) v (j .cap2 .result) (a .skips) (l .loop .sums) _ _ =
       λ v.
       constant-weighed (a .arities .now) (a .nodes .now) (a .table .now) (l .loop .next) _ v _ (a .skips) (l .loop .sums) _ (l .loop .inv .4 .long)
       (c .before .before .before .before .before .before .before .if9 .left) (c .before .before .before .before .if10 .taken) (rw (own .0, first) at (own .1)) (rw (own .0, first) at (c .add5 .ensures)) in
       let f =
-      argument-last (a .arities .now) (a .nodes .now) (a .table .now) (a .at) (a .left) (a .row) (a .factor) (a .skips) (a .sums .now) (s .pre .1 .4) (s .pre .1 .1) (count l)
+      argument-last (a .arities .now) (a .nodes .now) (a .table .now) (a .at) (a .end) (a .row) (a .factor) (a .skips) (a .sums .now) (s .pre .1 .4) (s .pre .1 .1) (count l)
       (l .loop .sums) (l .loop .next) (l .loop .i) (unweighed l) more (omega (arith, l .loop .inv .0, more)) _ (last-factor j) _ _ (λ w. weighed _)
       (weighed (argument l more) .long) (weighed (argument l more) .within) (is-last j) (l .loop .inv .3) in
       ((f .long, f .within), (f .ends, f .means))
-
-  sub-form-at-3 : lts.Need-sub-form-at-3 (called t) (given t) form-at.Post Inv-loop μ-loop
-  sub-form-at-3 c = (inside (c .before .before .before .before .before .before .before .before .before .before) (c .before .before .before .before .before .before .before .before .before .before .loop .inv .2)) .behind
-
-  sub-form-at-4 : lts.Need-sub-form-at-4 (called t) (given t) form-at.Post Inv-loop μ-loop
-  sub-form-at-4 c = (inside (c .before .before .before .before .before .before .before .before .before .before) (c .before .before .before .before .before .before .before .before .before .before .loop .inv .2)) .fits
 
   form-at-requires-3 : lts.Need-form-at-requires-3 (called t) (given t) form-at.Post Inv-loop μ-loop
   form-at-requires-3 c κs =
@@ -570,13 +554,13 @@ module _ (t : ℕ) where
       let a = s .args in
       let more = l .loop .inv .2 in
       let e = c .form-at3 .ensures in
-      let weighed : (v : Weighable (a .arities .now) (a .nodes .now) (l .loop .next) (a .left - (l .loop .next - a .at))) →
-      Weighed (a .arities .now) (a .nodes .now) (a .table .now) (l .loop .next) (a .left - (l .loop .next - a .at)) v (j .cap2 .result) (a .skips) (l .loop .sums) _ _ =
+      let weighed : (v : Weighable (a .arities .now) (a .nodes .now) (l .loop .next) (a .end - l .loop .next)) →
+      Weighed (a .arities .now) (a .nodes .now) (a .table .now) (l .loop .next) (a .end - l .loop .next) v (j .cap2 .result) (a .skips) (l .loop .sums) _ _ =
       λ v.
       call-weighed (a .arities .now) (a .nodes .now) (a .table .now) (l .loop .next) _ v _ (a .skips) (l .loop .sums) _ _ _ (c .before .before .before .before .row-of2 .ensures)
       (c .before .before .before .before .before .if9 .left) (e .0 .0) (e .0 .1) (e .1 .0) (e .1 .1) in
       let f =
-      argument-last (a .arities .now) (a .nodes .now) (a .table .now) (a .at) (a .left) (a .row) (a .factor) (a .skips) (a .sums .now) (s .pre .1 .4) (s .pre .1 .1) (count l)
+      argument-last (a .arities .now) (a .nodes .now) (a .table .now) (a .at) (a .end) (a .row) (a .factor) (a .skips) (a .sums .now) (s .pre .1 .4) (s .pre .1 .1) (count l)
       (l .loop .sums) (l .loop .next) (l .loop .i) (unweighed l) more (omega (arith, l .loop .inv .0, more)) _ (last-factor j) _ _ (λ w. weighed _)
       (weighed (argument l more) .long) (weighed (argument l more) .within) (is-last j) (l .loop .inv .3) in
       ((f .long, f .within), (f .ends, f .means))
@@ -628,8 +612,6 @@ pub +form-at-spec : {M : Type 1} → statement M
     (mul-add-2 t)
     (add-requires-3 t)
     (add-next-3 t)
-    (sub-form-at t)
-    (sub-form-at-2 t)
     (form-at-requires-2 t)
     (λ c κs. search needs)
     (returns-6 t)
@@ -658,7 +640,5 @@ pub +form-at-spec : {M : Type 1} → statement M
     (add-requires-5 t)
     (add-result-3 t)
     (returns-8 t)
-    (sub-form-at-3 t)
-    (sub-form-at-4 t)
     (form-at-requires-3 t)
     (returns-9 t))

@@ -23,7 +23,7 @@ use Rattle.judging.specs.Judge.{call}
 use Rattle.partition.specs.Working.{All-pairs}
 use Rattle.checker.specs.declared.weighing.Tally.{Tally}
 use Rattle.checker.specs.Working.{Pairs-asked, Present-asked, Arguments-within, Others-as-before, number-after}
-use Rattle.checker.proofs.FromStore.{weighting, sides-rise, pair-in-rules, right-fits, left-applied, right-applied, call-answer}
+use Rattle.checker.proofs.FromStore.{weighting, pair-in-rules, left-applied, right-applied, call-answer}
 use Rattle.checker.proofs.Positions.{pair-here}
 use Rattle.checker.proofs.Tallies.{Judged-to, no-pair-judged, pair-gone, pair-over, pair-judged, judged-all, numbers-told, none-changed, one-changed, changed-within}
 use Rattle.checker.proofs.weighing.judge_pairs.Statement.{statement}
@@ -99,13 +99,6 @@ module _ {cert : List ℕ} {from count rules : ℕ} {ar ss ns : List ℕ} (a : P
       unfolding pair-record
       right-there = rw reads-pair (right-applied (a .asked .kept .stored) q is)
 
-      -- where they begin and end
-      sides-there : (getD ss (2 * r .a) 0 ≤ getD ss (2 * r .a + 1) 0) × (getD ss (2 * r .a + 1) 0 + r .b ≤ getD ss (2 * r .a + 2) 0)
-      unfolding pair-record
-      sides-there =
-          let s = a .asked .kept .stored in
-          rw reads-pair (sides-rise s (q .at-rule) (pair-in-rules s q is) .0, right-fits s q is)
-
       -- the verdict on the pair
       said : (ws vs : List Weight) → Arguments-within p ws qs → {x : PairVerdict} →
           ((l : Applied ar ns (getD ss (2 * r .a) 0) (getD ss (2 * r .a + 1) 0 - getD ss (2 * r .a) 0))
@@ -135,15 +128,6 @@ its-rule c =
     let asked = start turn .pre .pairs-asked in
     let laid = asked .asked .kept .arrays .laid in
     (in-rules asked (turn .before .loop .i) (turn .loop-test .taken) (c .record-at .ensures), laid .few, laid .starts-long)
-
-its-sides :
-    (c : tie.After-record-at Inv-loop μ-loop) →
-    let ss = start (turn-of c) .args .starts .now in
-    let r = c .record-at .result in
-    (getD ss (2 * r .a) 0 ≤ getD ss (2 * r .a + 1) 0) × (getD ss (2 * r .a + 1) 0 + r .b ≤ getD ss (2 * r .a + 2) 0)
-its-sides c =
-    let turn = turn-of c in
-    sides-there (start turn .pre .pairs-asked) (turn .before .loop .i) (turn .loop-test .taken) (c .record-at .ensures)
 
 left-requires : tie.Need-marked-side-requires Inv-loop μ-loop
 left-requires c κs =
@@ -331,9 +315,7 @@ judge-pairs-spec =
     (λ c. omega (arith, c .shared-slice-known5 .given (2 * c .before .before .before .before .record-at .result .a + 2)))
     (λ c. search needs)
     (λ c. omega (arith, c .before .before .shared-slice-known4 .given (2 * c .before .before .before .before .before .record-at .result .a + 1)))
-    (λ c. its-sides (c .before .before .before .before .before .before) .0)
     left-requires
-    (λ c. its-sides (read-before c) .1)
     requires
     (λ c κs. search needs)
     returns

@@ -17,7 +17,7 @@ use Rattle.polynomials.specs.Judging.{rule-over, rule-rises}
 use Rattle.weights.specs.Table.{Table-is}
 use Rattle.weights.specs.Working.{Weighable, verdict}
 use Rattle.checker.specs.Working.{rules-verdict, Rules-asked}
-use Rattle.checker.proofs.FromStore.{weighting, sides-rise, left-weighable, right-weighable, rule-answer}
+use Rattle.checker.proofs.FromStore.{weighting, left-weighable, right-weighable, rule-answer}
 use Rattle.checker.proofs.Verdicts.{To-judge, rules-hold, rules-asked, none-judged, some-failed, none-failed, one-over, one-fails, one-holds}
 use Rattle.checker.proofs.weighing.judge_rules.Statement.{statement}
 use Rattle.checker.proofs.weighing.judge_rules.Tie as tie
@@ -86,7 +86,7 @@ requires c κs =
     let kept = turn .before .before .before .pre .kept in
     let s = kept .stored in
     let h = turn .loop-test .taken in
-    (kept .arrays .nodes-long, sides-rise s i h .0, sides-rise s i h .1, left-weighable s i h, right-weighable s i h)
+    (kept .arrays .nodes-long, left-weighable s i h, right-weighable s i h)
 
 returns : tie.Need-returns Inv-loop μ-loop
 returns c =

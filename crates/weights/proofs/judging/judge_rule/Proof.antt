@@ -44,11 +44,9 @@ pub judge-rule-spec : {M : Type 1} → statement M
 judge-rule-spec =
     tie.close
     (tie.spec
-    (λ c. search needs)
     (λ c κs. search needs)
     (λ c κs. search needs)
     returns
-    (λ c. search needs)
     (λ c κs. search needs)
     (λ c κs. search needs)
     returns-2
