@@ -26,7 +26,7 @@ use Rattle.weights.specs.Table.{Marked-is}
 use Rattle.checker.specs.Working.{answered, record-count, Component-judged, Numbers-tell, Rules-known, Known-after, all-left-under, All-told}
 use Rattle.checker.specs.declared.component.Found.{Found}
 use Rattle.checker.specs.Working.{Component-there, Component-asked, Component-answered, Components-asked}
-use Rattle.checker.proofs.Positions.{component-within, next-component}
+use Rattle.checker.proofs.Positions.{next-component}
 use Rattle.checker.proofs.Weightings.{answer-refused, answer-passed}
 
 -- WHAT IS LEFT
@@ -42,9 +42,8 @@ module _ {cert : List ℕ} {components rules : ℕ} {ar ss ns ms lefts₀ : List
     pub are : drop at (all-records cert) ≡ component-records i (drop i all)
     pub number : components-refusal p (plain p) all ≡ components-refusal p (plain p) (drop i all)
     pub known : Rules-known p cert at before table
-    pub first-small : first ≤ at
     pub pairs-left : first + length (all-pairs (drop i all)) ≡ length (all-pairs all)
-    pub lefts-long : length lefts ≡ 3072
+    pub lefts-long : length lefts ≡ 2048
     pub fresh : (k : ℕ) → first ≤ k → getD lefts k 0 ≡ 0
     pub told : (k : ℕ) → k < first → getD lefts k 0 ≡ getD (all-left-under p all) k 0
     pub ahead : (k : ℕ) → getD (all-left-under p all) (first + k) 0 ≡ getD (all-left-under p (drop i all)) k 0
@@ -55,7 +54,6 @@ module _ {cert : List ℕ} {components rules : ℕ} {ar ss ns ms lefts₀ : List
         are = a .are;
         number = refl;
         known = known;
-        first-small = omega arith;
         pairs-left = zero-add _;
         lefts-long = a .lefts-long;
         fresh = λ k h. a .all-present k;
@@ -101,9 +99,8 @@ module _ {cert : List ℕ} {components rules : ℕ} {ar ss ns ms lefts₀ : List
       pairs-here =
           ap (λ n. first + n) (sym (ap (λ (cs : List Component). length (all-pairs cs)) others ∙ length-append (component .pairs) (all-pairs (drop (suc i) all)))) ∙ s .pairs-left
 
-      pub room : first + length (component .pairs) ≤ 3072
-      unfolding record-count
-      room = omega (arith, s .first-small, component-within (there .stands), a .file .short)
+      pub room : first + length (component .pairs) ≤ 2048
+      room = omega (arith, pairs-here, a .pairs-few)
 
       pub all-present : Numbers-tell p [] (component .pairs) first lefts
       unfolding left-under
@@ -173,7 +170,6 @@ module _ {cert : List ℕ} {components rules : ℕ} {ar ss ns ms lefts₀ : List
                 are = rw (found .1, add-one) (next-component (there .stands));
                 number = rw add-one (number-here ∙ rw (found .0));
                 known = rw (found .1) (d .known (asked unmarked) accepted);
-                first-small = let small = s .first-small in omega (arith, found .1, counted);
                 pairs-left = rw (add-one, ← counted) (let e = pairs-here in omega arith);
                 lefts-long = others-stay .long ∙ s .lefts-long;
                 fresh = λ k l. others-stay .higher k (omega (arith, counted)) ∙ s .fresh k (omega arith);

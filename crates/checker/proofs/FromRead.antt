@@ -1,7 +1,7 @@
 -- What a certificate that was read brings to the judging: components that can be weighed.
 use mathlib.Core.Path.{_≡_}
 use mathlib.Core.List.{List}
-use Prim.Native.Nat.{ℕ, _<_}
+use Prim.Native.Nat.{ℕ, _≤_, _<_}
 use native.Mathlib.Omega.{arith}
 use lib.Dec.{ltb}
 use lib.ListN.{length, getD}
@@ -19,6 +19,7 @@ use Rattle.certificates.specs.CertificateReading.{is-place, components-from}
 use Rattle.certificates.specs.Encoding.{no-weight}
 use Rattle.certificates.proofs.Shapes.{At-place}
 use Rattle.certificates.proofs.OnlyEncodings.{records-only}
+use Rattle.judging.specs.Judge.{all-pairs}
 use Rattle.judging.specs.Shown.{nth}
 use Rattle.partition.specs.Working.{All-pairs, Judgeable}
 use Rattle.partition.proofs.FromRead.{shape}
@@ -59,9 +60,9 @@ unfolding nth
 all-fit p ds cs read g i h = read-fits p ds cs read g i h
 
 abbrev pub components-asked :
-    {ds : List ℕ} {components rules : ℕ} {ar ss ns ms : List ℕ} (j : Judgeable ds components rules ar ss ns ms) {lefts : List ℕ} → length lefts ≡ 3072 →
+    {ds : List ℕ} {components rules : ℕ} {ar ss ns ms : List ℕ} (j : Judgeable ds components rules ar ss ns ms) → length (all-pairs (j .all)) ≤ 2048 → {lefts : List ℕ} → length lefts ≡ 2048 →
     ((k : ℕ) → getD lefts k 0 ≡ 0) → Components-asked ds components rules ar ss ns ms lefts
-components-asked {ds} j long zero =
+components-asked {ds} j few long zero =
     let p = j .kept .system in
     record {
       file = j .file;
@@ -70,6 +71,7 @@ components-asked {ds} j long zero =
       counted = j .counted;
       are = records-only p (all-records ds) (j .all) (j .read);
       fit = all-fit p ds (j .all) (j .read) (j .kept .stored .good);
+      pairs-few = few;
       lefts-long = long;
       all-present = zero;
     }

@@ -1,4 +1,4 @@
--- What is known of the rules between components, and what a component with one weighting comes to.
+-- What is known of the rules between components.
 use mathlib.Core.List.{List}
 use Prim.Native.Nat.{ℕ, _+_}
 use native.Mathlib.Omega.{arith}

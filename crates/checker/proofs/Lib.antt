@@ -11,3 +11,4 @@ pub mod Turns
 pub mod Known
 pub mod Weightings
 pub mod Components
+pub mod Telling

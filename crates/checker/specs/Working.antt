@@ -3,7 +3,7 @@
 use mathlib.Core.Path.{_≡_}
 use mathlib.Core.Bool.{Bool, true, false, _&&_, _||_, not, cond}
 use mathlib.Core.List.{List, [], _∷_, _++_, map}
-use Prim.Native.Nat.{ℕ, _+_, _≤_, _<_}
+use Prim.Native.Nat.{ℕ, suc, _+_, _≤_, _<_}
 use lib.Dec.{ltb, eqb}
 use lib.ListN.{length, getD, drop}
 use Rattle.rewriting.specs.Terms.{System, Rule}
@@ -30,9 +30,13 @@ use Rattle.weights.specs.Working.{verdict}
 use Rattle.certificates.specs.Components.{Component, no-component, no-weighting}
 use Rattle.certificates.specs.CertificateReading.{most-certificate-bytes}
 use Rattle.certificates.specs.Encoding.{weight-records, weighting-records, component-records}
-use Rattle.partition.specs.Working.{All-pairs, Judgeable}
+use Rattle.partition.specs.Working.{All-pairs}
 use Rattle.judging.specs.Judges.{plain}
 use Rattle.judging.specs.Judge.{all-pairs, call, calls, component-refusal, components-refusal, judged}
+use Rattle.entries.specs.declared.Entry.{Entry}
+use Rattle.entries.specs.declared.Store.{Store}
+use Rattle.entries.specs.Entries.{none}
+use Rattle.checker.specs.declared.Judged.{Judged}
 use Rattle.checker.specs.declared.weighing.Tally.{Tally}
 use Rattle.checker.specs.declared.component.Turn.{Turn}
 use Rattle.checker.specs.declared.component.Found.{Found}
@@ -130,8 +134,8 @@ present done cs = without (λ c. ltb (left-under done c) (length done)) cs
 -- For each pair that a certificate names, in its order, the code keeps the number of the weighting under which the pair left, or how
 -- many have been judged where it is present. Those of the pairs from number `first` on tell it.
 pub record Numbers-tell (p : System) (done : List Weighting) (qs : List Pair) (first : ℕ) (lefts : List ℕ) : Type 0 where
-  pub long : length lefts ≡ 3072
-  pub room : first + length qs ≤ 3072
+  pub long : length lefts ≡ 2048
+  pub room : first + length qs ≤ 2048
   pub told : (k : ℕ) → k < length qs → getD lefts (first + k) 0 ≡ left-under done (call p (getD qs k (a-pair 0 0)))
 
 -- the numbers before pair `first` and from pair `end` on are as they were
@@ -204,9 +208,24 @@ unfoldable pub all-left-under : System → List Component → List ℕ
 all-left-under p [] = []
 all-left-under p (c ∷ cs) = map (left-under (c .weightings)) (calls p (c .pairs)) ++ all-left-under p cs
 
--- WHAT THE NUMBERS TELL of all pairs when the check accepts: under which weighting each left
+-- what the numbers tell of all pairs when all have left
 unfoldable pub All-told : System → List Component → (lefts : List ℕ) → Type 0
 All-told p cs lefts = (k : ℕ) → k < length (all-pairs cs) → getD lefts k 0 ≡ getD (all-left-under p cs) k 0
+
+-- the entry of a pair of component n that left under weighting k
+abbrev pub told-entry : (n k : ℕ) → Pair → Entry
+told-entry n k q = record { rule = q .at-rule; place = q .place; component = n; weighting = k }
+
+-- the entries of components that have the numbers after n, each with the weighting under which its pair left
+unfoldable pub told-entries : System → (n : ℕ) → List Component → List Entry
+told-entries p n [] = []
+told-entries p n (c ∷ cs) = map (λ (q : Pair). told-entry (suc n) (left-under (c .weightings) (call p q)) q) (c .pairs) ++ told-entries p (suc n) cs
+
+-- WHAT THE STORE TELLS when the check accepts: of each pair, in the certificate's order, the rule, the place, the component and the
+-- weighting under which it left
+pub record Store-tells (p : System) (cs : List Component) (s : Store) : Type 0 where
+  pub counted : s .count ≡ length (all-pairs cs)
+  pub are : (k : ℕ) → k < length (all-pairs cs) → getD (s .entries) k none ≡ getD (told-entries p 0 cs) k none
 
 -- THE CONTRACTS: what each function is asked, and what it answers for all that it may have been asked
 
@@ -414,7 +433,8 @@ pub record Components-asked (certificate : List ℕ) (components rules : ℕ) (a
   pub counted : components ≡ length all
   pub are : all-records certificate ≡ component-records 0 all
   pub fit : (i : ℕ) → i < length all → Component-fits (kept .system) (getD all i no-component)
-  pub lefts-long : length lefts ≡ 3072
+  pub pairs-few : length (all-pairs all) ≤ 2048
+  pub lefts-long : length lefts ≡ 2048
   pub all-present : (k : ℕ) → getD lefts k 0 ≡ 0
 
 -- the first refusal; where there is none, the numbers tell under which weighting each pair left
@@ -424,13 +444,7 @@ pub record Components-judged (certificate : List ℕ) (components rules : ℕ) (
   pub numbers : (a : Components-asked certificate components rules arities starts nodes flags lefts) →
       components-refusal (a .kept .system) (plain (a .kept .system)) (a .all) ≡ 0 → All-told (a .kept .system) (a .all) lefts-after
 
--- the whole judging is asked, with numbers for all pairs
-pub record Judging-asked (certificate : List ℕ) (components rules : ℕ) (arities starts nodes flags lefts : List ℕ) : Type 0 where
-  pub read : Judgeable certificate components rules arities starts nodes flags
-  pub lefts-long : length lefts ≡ 3072
-  pub all-present : (k : ℕ) → getD lefts k 0 ≡ 0
-
--- what it answers: the number of all, and where it is 0 the numbers tell
-pub record All-judged (p : System) (cs : List Component) (lefts-after : List ℕ) (r : Answer) : Type 0 where
-  pub numbered : Judged-as (judged p (plain p) cs) r
-  pub told : judged p (plain p) cs ≡ 0 → All-told p cs lefts-after
+-- what the whole judging answers: the number of all, and where it is 0 the entries tell
+pub record All-judged (p : System) (cs : List Component) (r : Judged) : Type 0 where
+  pub numbered : Judged-as (judged p (plain p) cs) (r .answer)
+  pub told : judged p (plain p) cs ≡ 0 → Store-tells p cs (r .store)

@@ -1,7 +1,7 @@
 // Each component in turn: 10, or weighting by weighting 11, 12, 13, 17.
 use crate::weighing::Tally;
 use records::Answer;
-use records::MOST_RECORDS;
+use records::MOST_PAIRS;
 use records::Refusal;
 use terms::MOST_SYMBOLS;
 use terms::NODES_ROOM;
@@ -19,7 +19,8 @@ pub struct Turn {
     pub first: usize,
 }
 
-// What a component came to: the record after it or a refusal, and where the W records begin whose weights the table then holds.
+// What a component came to: the record after it or a refusal, and, where it passed, where the W records begin whose weights the table
+// then holds, or 0 for none.
 pub struct Found {
     pub answer: Answer,
     pub weights: usize,
@@ -96,7 +97,7 @@ fn judge_calls(
     middle: usize,
     verdict: Verdict,
     turn: Turn,
-    lefts: &mut [u8; MOST_RECORDS],
+    lefts: &mut [u8; MOST_PAIRS],
     arities: &[u8; MOST_SYMBOLS],
     table: &mut [u16; CELLS],
     starts: &[u16],
@@ -135,7 +136,7 @@ fn one_weighting(
     turn: Turn,
     before: usize,
     table: &mut [u16; CELLS],
-    lefts: &mut [u8; MOST_RECORDS],
+    lefts: &mut [u8; MOST_PAIRS],
     arities: &[u8; MOST_SYMBOLS],
     starts: &[u16],
     nodes: &[u8; NODES_ROOM],
@@ -193,7 +194,7 @@ fn weighted(
     first: usize,
     before: usize,
     table: &mut [u16; CELLS],
-    lefts: &mut [u8; MOST_RECORDS],
+    lefts: &mut [u8; MOST_PAIRS],
     arities: &[u8; MOST_SYMBOLS],
     starts: &[u16],
     nodes: &[u8; NODES_ROOM],
@@ -240,6 +241,7 @@ fn weighted(
         }
         number = number + 1;
     }
+    // No L stands after the last.
     Found {
         answer: Answer::Passed(from - 1),
         weights,
@@ -275,7 +277,7 @@ fn judge_component(
     first: usize,
     before: usize,
     table: &mut [u16; CELLS],
-    lefts: &mut [u8; MOST_RECORDS],
+    lefts: &mut [u8; MOST_PAIRS],
     arities: &[u8; MOST_SYMBOLS],
     starts: &[u16],
     nodes: &[u8; NODES_ROOM],
@@ -319,7 +321,7 @@ pub fn judge_components(
     starts: &[u16],
     nodes: &[u8; NODES_ROOM],
     defined: &[u8],
-    lefts: &mut [u8; MOST_RECORDS],
+    lefts: &mut [u8; MOST_PAIRS],
 ) -> Answer
     requires { ⌜ Components-asked (now certificate) components rules (now arities) (now starts) (now nodes) (now defined) (now lefts) ⌝ }
     ensures { λ r. ⌜ Components-judged (now (certificate .entry)) components rules (now (arities .entry)) (now (starts .entry)) (now (nodes .entry)) (now (defined .entry)) (now (lefts .entry)) (now (lefts .exit)) r ⌝ }

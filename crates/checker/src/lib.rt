@@ -2,15 +2,22 @@
 mod component;
 mod weighing;
 
+use entries::Store;
 use records::Answer;
-use records::MOST_RECORDS;
+use records::MOST_PAIRS;
 use terms::MOST_SYMBOLS;
 use terms::NODES_ROOM;
 ghost use Rattle.partition.specs.Working.{Judgeable};
-ghost use Rattle.checker.specs.Working.{Judging-asked, All-judged};
+ghost use Rattle.checker.specs.Working.{All-judged};
 
-// Judges a certificate that was read. Where it is accepted, `lefts`, which was all 0, has for each entry that `entries::keep` keeps of
-// the certificate, at the same place, the number of the weighting under which its pair left.
+// What a certificate comes to, and the entries of its pairs. Where it is accepted, each tells the weighting under which its pair left,
+// or 0 where the component has none.
+pub struct Judged {
+    pub store: Store,
+    pub answer: Answer,
+}
+
+// Judges a certificate that was read.
 pub fn judge(
     certificate: &[u8],
     components: usize,
@@ -19,13 +26,14 @@ pub fn judge(
     starts: &[u16],
     nodes: &[u8; NODES_ROOM],
     defined: &[u8],
-    lefts: &mut [u8; MOST_RECORDS],
-) -> Answer
-    requires { ⌜ Judging-asked (now certificate) components rules (now arities) (now starts) (now nodes) (now defined) (now lefts) ⌝ }
-    ensures { λ r. ⌜ ((j : Judgeable (now (certificate .entry)) components rules (now (arities .entry)) (now (starts .entry)) (now (nodes .entry)) (now (defined .entry))) → All-judged (j .kept .system) (j .all) (now (lefts .exit)) r) ⌝ }
+) -> Judged
+    requires { ⌜ Judgeable (now certificate) components rules (now arities) (now starts) (now nodes) (now defined) ⌝ }
+    ensures { λ r. ⌜ ((j : Judgeable (now (certificate .entry)) components rules (now (arities .entry)) (now (starts .entry)) (now (nodes .entry)) (now (defined .entry))) → All-judged (j .kept .system) (j .all) r) ⌝ }
 {
+    let store = entries::keep(certificate);
     match partition::judge(
         certificate,
+        store,
         components,
         rules,
         arities,
@@ -33,16 +41,34 @@ pub fn judge(
         nodes,
         defined,
     ) {
-        Answer::Refused(x) => Answer::Refused(x),
-        Answer::Passed(_) => component::judge_components(
-            certificate,
-            components,
-            rules,
-            arities,
-            starts,
-            nodes,
-            defined,
-            lefts,
-        ),
+        Answer::Refused(x) => Judged {
+            store,
+            answer: Answer::Refused(x),
+        },
+        Answer::Passed(_) => {
+            let mut lefts = [0u8; MOST_PAIRS];
+            match component::judge_components(
+                certificate,
+                components,
+                rules,
+                arities,
+                starts,
+                nodes,
+                defined,
+                &mut lefts,
+            ) {
+                Answer::Refused(x) => Judged {
+                    store,
+                    answer: Answer::Refused(x),
+                },
+                Answer::Passed(next) => {
+                    let told = entries::tell(store, &lefts);
+                    Judged {
+                        store: told,
+                        answer: Answer::Passed(next),
+                    }
+                }
+            }
+        }
     }
 }

@@ -1,5 +1,5 @@
-// The weights of a component in the table, and all rules and its pairs under them.
-use records::MOST_RECORDS;
+// The weights of a weighting in the table, and all rules and the pairs present under them.
+use records::MOST_PAIRS;
 use records::Record;
 use terms::MOST_SYMBOLS;
 use terms::Marked;
@@ -89,7 +89,7 @@ fn same_record(x: Record, y: Record) -> bool
 }
 
 // Compares the W records from record `from` on with those from record `before` on. Answers the record after them, or 0 where they
-// differ, where they end the file, and where `before` is 0, which stands for none.
+// differ, and where `before` is 0, which stands for none.
 pub fn same_weights(certificate: &[u8], before: usize, from: usize) -> usize
     requires { ⌜ before < from ⌝ }
     ensures { λ r. ⌜ (0 < r → Weights-agree (now (certificate .entry)) before from r) ⌝ }
@@ -114,6 +114,13 @@ pub fn same_weights(certificate: &[u8], before: usize, from: usize) -> usize
         }
         i = i + 1;
         at = at + 1;
+    }
+    // They end the file: the same if those before end here too.
+    if i < n {
+        let x = records::record_at(certificate, 8 * i);
+        if x.kind != b'W' {
+            return at;
+        }
     }
     0
 }
@@ -194,8 +201,8 @@ fn noted(t: Tally, v: PairVerdict) -> Tally
 }
 
 // Gives a pair that stays the number of the next weighting; any other keeps the number that it has, and nothing is written.
-fn renumber(lefts: &mut [u8; MOST_RECORDS], at: usize, v: PairVerdict, number: u8)
-    requires { ⌜ (at < 3072) × (number < 8) × (getD (now lefts) at 0 ≡ number) ⌝ }
+fn renumber(lefts: &mut [u8; MOST_PAIRS], at: usize, v: PairVerdict, number: u8)
+    requires { ⌜ (at < 2048) × (number < 8) × (getD (now lefts) at 0 ≡ number) ⌝ }
     ensures { λ _. ⌜ now (lefts .exit) ≡ set (now (lefts .entry)) at (number-after v number) ⌝ }
 {
     match v {
@@ -223,7 +230,7 @@ pub fn judge_pairs(
     count: usize,
     first: usize,
     number: u8,
-    lefts: &mut [u8; MOST_RECORDS],
+    lefts: &mut [u8; MOST_PAIRS],
     arities: &[u8; MOST_SYMBOLS],
     table: &[u16; CELLS],
     starts: &[u16],

@@ -1,6 +1,5 @@
-// The pairs that a certificate names, kept as entries of rule, place and component.
+// The pairs that a certificate names, kept as entries of rule, place and component, and the weightings under which they left.
 use records::MOST_PAIRS;
-use records::Record;
 ghost use mathlib.Core.Path.{_≡_};
 ghost use mathlib.Core.Bool.{cond};
 ghost use Prim.Native.Nat.{suc, _%_, _*_, _+_, _≤_};
@@ -8,12 +7,14 @@ ghost use lib.Dec.{eqb};
 ghost use lib.ListN.{length};
 ghost use Rattle.records.specs.Records.{all-records, record-at};
 ghost use Rattle.records.specs.Order.{P-pair};
-ghost use Rattle.entries.specs.Entries.{numbered, entry, with-entry, Keeps};
+ghost use Rattle.entries.specs.Entries.{numbered, entry, with-entry, Keeps, telling, Has-room, Told};
 
+// The weighting is 0 until it is told. No byte is left between the fields, so that all entries are cleared at once.
 pub struct Entry {
     pub rule: u8,
     pub place: u8,
     pub component: u16,
+    pub weighting: u16,
 }
 
 // The entries of the pairs that a certificate names, in its order, and how many there are. The count last, for a quick copy: DECISIONS 35.
@@ -68,6 +69,7 @@ fn entry_at(certificate: &[u8], i: usize, component: u16) -> Entry
         rule: (r.a % 256) as u8,
         place: (r.b % 256) as u8,
         component,
+        weighting: 0,
     }
 }
 
@@ -109,7 +111,36 @@ pub fn keep(certificate: &[u8]) -> Store
         rule: 0,
         place: 0,
         component: 0,
+        weighting: 0,
     }; MOST_PAIRS];
     let count = enter_all(certificate, &mut entries);
     Store { entries, count }
+}
+
+// The entry, with the weighting under which its pair left.
+fn telling(e: Entry, weighting: u8) -> Entry
+    ensures { λ r. ⌜ r ≡ telling e weighting ⌝ }
+{
+    Entry {
+        rule: e.rule,
+        place: e.place,
+        component: e.component,
+        weighting: weighting as u16,
+    }
+}
+
+// Puts into each entry the weighting under which its pair left.
+pub fn tell(store: Store, weightings: &[u8; MOST_PAIRS]) -> Store
+    requires { ⌜ Has-room store ⌝ }
+    ensures { λ r. ⌜ Told store (now (weightings .entry)) r ⌝ }
+{
+    let n = store.count;
+    let mut entries = store.entries;
+    let mut i = 0;
+    while i < n {
+        let e = entries[i];
+        entries[i] = telling(e, weightings[i]);
+        i = i + 1;
+    }
+    Store { entries, count: n }
 }

@@ -26,7 +26,7 @@ Small q = (q .at-rule < 64) × (q .place < 32)
 
 -- the entry of a pair of component n
 abbrev pub entry-of : (n : ℕ) → Pair → Entry
-entry-of n q = record { rule = q .at-rule; place = q .place; component = n }
+entry-of n q = record { rule = q .at-rule; place = q .place; component = n; weighting = 0 }
 
 -- the entries of components that have the numbers after n
 unfoldable pub entries-from : (n : ℕ) → List Component → List Entry

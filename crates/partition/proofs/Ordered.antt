@@ -6,10 +6,10 @@ use Prim.Native.Nat.{ℕ, _≤_, _<_}
 use native.Mathlib.Omega.{arith}
 use lib.Dec.{eqb}
 use lib.ListN.{length, getD, length-map, List·getD-map}
-use borrow.Author.Tests.{eq-eqb, ne-eqb}
+use borrow.Author.Tests.{eqb-true, eqb-false, eq-eqb, ne-eqb}
 use Rattle.rewriting.specs.Terms.{System}
 use Rattle.rewriting.specs.Pairs.{Pair, is-pair}
-use Rattle.rewriting.proofs.Basics.{Each, each-by}
+use Rattle.rewriting.proofs.Basics.{by-test, Each, each-by}
 use Rattle.rewriting.proofs.Pairs.{pair-rule}
 use Rattle.records.specs.Records.{all-records}
 use Rattle.pairs.specs.Listing.{a-pair, pairs}
@@ -22,7 +22,7 @@ use Rattle.judging.specs.Judge.{all-pairs, each-once, back-arc}
 use Rattle.entries.specs.declared.Entry.{Entry}
 use Rattle.entries.specs.Entries.{none, entries-of}
 use Rattle.partition.specs.Working.{doubled, All-pairs, All-small, named, lowest, any-taken, any-back, Names-pairs, Judgeable, ordered}
-use Rattle.partition.proofs.Counted.{counted-once}
+use Rattle.partition.proofs.Counted.{counted-once, pairs-few}
 use Rattle.partition.proofs.Twice.{untaken, twice-means}
 use Rattle.partition.proofs.Named.{Small, entries-from, entries-are, all-named}
 use Rattle.partition.proofs.Backward.{back-means, one-component}
@@ -43,13 +43,13 @@ module _ {ds : List ℕ} {components rules : ℕ} {ar ss ns ms : List ℕ} (j : 
   unfolding All-small
   small = each-by (a-pair 0 0) (all-pairs cs) (read-small p ds cs (j .read) (j .kept .stored .good))
 
-  are : es ≡ entries-from 0 cs
+  pub are : es ≡ entries-from 0 cs
   are = ap (entries-of 0) (records-only p (all-records ds) cs (j .read)) ∙ entries-are 0 0 cs small
 
   name : map named es ≡ all-pairs cs
   name = ap (map named) are ∙ all-named 0 cs
 
-  as-many : length es ≡ length (all-pairs cs)
+  pub as-many : length es ≡ length (all-pairs cs)
   as-many = sym (length-map es named) ∙ ap length name
 
   pub names : Names-pairs p es
@@ -70,6 +70,13 @@ module _ {ds : List ℕ} {components rules : ℕ} {ar ss ns ms : List ℕ} (j : 
   eight-counted h =
       let e = once-is ∙ ap (λ (b : Bool). b && not (any-taken untaken es)) (ne-eqb _ _ h) in
       ap (λ (b : Bool). cond b (cond (back-arc (plain p) [] cs) 9 0) 8) e
+
+  -- without 8 there is an entry for each pair
+  pub few-pairs : ordered p cs ≡ 0 → length (all-pairs cs) ≤ 2048
+  few-pairs h =
+      by-test (eqb (length es) (length (first-pairs ss ns ms rules)))
+      (λ e. let same = eqb-true (length es) (length (first-pairs ss ns ms rules)) e in omega (arith, as-many, pairs-few ss ns ms rules (j .kept .arrays .laid)))
+      (λ e. let z = eight-counted (eqb-false _ _ e) in absurd (omega arith))
 
   pub eight-twice : any-taken untaken es ≡ true → ordered p cs ≡ 8
   unfolding ordered

@@ -24,7 +24,8 @@ use Rattle.certificates.specs.CertificateReading.{most-certificate-bytes, compo
 use Rattle.judging.specs.Judges.{plain}
 use Rattle.judging.specs.Judge.{all-pairs, each-once, back-arc}
 use Rattle.entries.specs.declared.Entry.{Entry}
-use Rattle.entries.specs.Entries.{none}
+use Rattle.entries.specs.declared.Store.{Store}
+use Rattle.entries.specs.Entries.{none, Keeps}
 
 -- some pair stands twice
 unfoldable pub doubled : List Pair → Bool
@@ -142,6 +143,11 @@ pub record Judgeable (certificate : List ℕ) (components rules : ℕ) (arities 
   pub all : List Component
   pub read : components-from (kept .system) components-start (all-records certificate) ≡ passed all
   pub counted : components ≡ length all
+
+-- and its pairs are kept
+pub record Ordering-asked (certificate : List ℕ) (store : Store) (components rules : ℕ) (arities starts nodes flags : List ℕ) : Type 0 where
+  pub judgeable : Judgeable certificate components rules arities starts nodes flags
+  pub keeps : Keeps (all-records certificate) store
 
 -- 8, 9, or neither
 unfoldable pub ordered : System → List Component → ℕ

@@ -1,5 +1,6 @@
 // 8 and 9: every pair stands once, and no arc leads back to a lower component.
 use entries::Entry;
+use entries::Store;
 use pack_reader::MOST_NODES;
 use pack_reader::MOST_RULES;
 use records::Answer;
@@ -9,7 +10,7 @@ use terms::MOST_SYMBOLS;
 ghost use mathlib.Core.Path.{_≡_};
 ghost use Prim.Native.Nat.{_<_};
 ghost use lib.ListN.{length};
-ghost use Rattle.partition.specs.Working.{slot, back-to, back-at, Keys, Roots, Lowered, Noted-entry, Keys-asked, Back-asked, Back-asked-of, Judgeable, Ordered-as};
+ghost use Rattle.partition.specs.Working.{slot, back-to, back-at, Keys, Roots, Lowered, Noted-entry, Keys-asked, Back-asked, Back-asked-of, Judgeable, Ordering-asked, Ordered-as};
 
 // Above the number of every component.
 const NO_COMPONENT: u16 = 65535;
@@ -127,9 +128,10 @@ fn back_from_entry(
     )
 }
 
-// 8, then 9, of a certificate that was read.
+// 8, then 9, by the entries of a certificate that was read. The certificate itself is there for the contract.
 pub fn judge(
     certificate: &[u8],
+    store: Store,
     components: usize,
     rules: usize,
     arities: &[u8],
@@ -137,10 +139,9 @@ pub fn judge(
     nodes: &[u8],
     defined: &[u8],
 ) -> Answer
-    requires { ⌜ Judgeable (now certificate) components rules (now arities) (now starts) (now nodes) (now defined) ⌝ }
+    requires { ⌜ Ordering-asked (now certificate) store components rules (now arities) (now starts) (now nodes) (now defined) ⌝ }
     ensures { λ r. ⌜ ((j : Judgeable (now (certificate .entry)) components rules (now (arities .entry)) (now (starts .entry)) (now (nodes .entry)) (now (defined .entry))) → Ordered-as (j .kept .system) (j .all) r) ⌝ }
 {
-    let store = entries::keep(certificate);
     let n = store.count;
     if n != pair_finder::listing::count_pairs(starts, nodes, defined, rules) {
         return Answer::Refused(Refusal::PairCount);

@@ -12,7 +12,7 @@ use Rattle.promises.specs.Promises.{Certified}
 use Rattle.teldyzhom.specs.declared.Checked.{Checked}
 use Rattle.teldyzhom.specs.declared.Checked.the-variants.{Accepted, Refused}
 
--- What accepting means: exactly that the two files are as document 01 wants them; and that all chains of the pack's pairs end,
+-- What accepting means: exactly that the two files are as the documents want them; and that all chains of the pack's pairs end,
 -- and all derivations from all terms over it.
 pub record Accepting (accepts : Type 0) (pack certificate : List ℕ) : Type 0 where
   pub certified : accepts → Certified pack certificate

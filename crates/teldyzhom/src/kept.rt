@@ -2,7 +2,6 @@
 use crate::Checked;
 use pairs::ArcAnswer;
 use records::Answer;
-use records::MOST_RECORDS;
 use terms::MOST_SYMBOLS;
 use terms::NODES_ROOM;
 ghost use mathlib.Core.Path.{_≡_};
@@ -43,8 +42,7 @@ pub fn check_kept(
     ) {
         Answer::Refused(x) => Checked::Refused(x),
         Answer::Passed(components) => {
-            let mut lefts = [0u8; MOST_RECORDS];
-            match checker::judge(
+            let judged = checker::judge(
                 certificate,
                 components,
                 rules,
@@ -52,8 +50,9 @@ pub fn check_kept(
                 starts,
                 nodes,
                 defined,
-                &mut lefts,
-            ) {
+            );
+            let answer = judged.answer;
+            match answer {
                 Answer::Refused(x) => Checked::Refused(x),
                 Answer::Passed(_) => Checked::Accepted,
             }

@@ -54,7 +54,7 @@ fn judge_files(pack: &[u8], certificate: &[u8]) -> Checked
     }
 }
 
-// Checks a certificate for a pack: accepted, or the first refusal, 1 to 13 or 17. Accepted means that the files are as document 01 wants
+// Checks a certificate for a pack: accepted, or the first refusal, 1 to 13 or 17. Accepted means that the files are as the documents want
 // them, that all chains of the pack's dependency pairs end and that all derivations from all terms over its symbols end.
 pub fn check_certificate(pack: &[u8], certificate: &[u8]) -> Checked
     ensures says { λ r. ⌜ checked-number r ≡ check (now (pack .entry)) (now (certificate .entry)) ⌝ }

@@ -1,5 +1,5 @@
 -- `entries::enter` meets its contract: a walk of its MIR, by hand.
---     _4 = _1.len;  _5 = _2 < _4;  if _5 { _6 = _2 * 4;  _7 = _1.ptr + _6;  *_7 = _3 };  _0 = ();  return
+--     _4 = _1.len;  _5 = _2 < _4;  if _5 { _6 = _2 * 6;  _7 = _1.ptr + _6;  *_7 = _3 };  _0 = ();  return
 -- The slice's borrow is opened where the place is there, the entry is written over, and the borrow is closed at the entries with the new one.
 use mathlib.Core.Path.{_≡_, refl, sym, ap, subst}
 use Prim.Native.Nat.{ℕ, _*_, _≤_, _<_, _^_}
@@ -105,8 +105,8 @@ module _ {M : Type 1} (𝓤 : URA M) (H : Heap 𝓤) (A : Atoms 𝓤) (W : Given
       feqI ! (List Val) (vunit ∷ []) (vunit ∷ []) refl $ move ! (1 ∷ 0 ∷ []) $ done !
 
   -- the entry's place lies in the slice's room
-  offset-fits : i < l → i * 4 < 2 ^ 64
-  offset-fits within = let many : l * 4 < 2 ^ 63 = room .1 in omega arith
+  offset-fits : i < l → i * 6 < 2 ^ 64
+  offset-fits within = let many : l * 6 < 2 ^ 63 = room .1 in omega arith
 
   typed : (e : Entry) → Is R e (T′.lowered e ∷ []) → Holds (hasTy T′.mir (T′.lowered e)) × WT (T′.lowered e)
   typed e is = LL.lawful T.the-type T′.the-laws 𝓤 H A W .typed e _ is .0
@@ -130,7 +130,7 @@ module _ {M : Type 1} (𝓤 : URA M) (H : Heap 𝓤) (A : Atoms 𝓤) (W : Given
         (λ yes-test. let within : i < l = ltb→lt i l yes-test in
         sets ! (bin ! (var ! 15 refl) (lit ! tt) (record { fits = offset-fits within })) 7 refl (tt, record { fits = offset-fits within }) $
         sets ! (bin ! (load ! (from ! (fld ! refl (stop !))) (look-in ! 17 (sub ! 0 refl (whole !)))) (var ! 7 refl) tt) 5 refl (tt, tt) $
-        rewrite ! 5 (λ (p : ℕ). ‵ (fat fullShare tyPtr l₇ 0 (vptr b p))) (sym (place-is 4 o i)) refl $
+        rewrite ! 5 (λ (p : ℕ). ‵ (fat fullShare tyPtr l₇ 0 (vptr b p))) (sym (place-is 6 o i)) refl $
         opens-slice ! tt R es b o $ elem-out ! R (Is R) (shows 𝓤 H A R) (LL.vals T.the-type T′.the-laws) (LL.tells T.the-type T′.the-laws) fullShare es i none b o within (λ _.
         -- [the entry; what it owns; the other entries; the open borrow; obs; auth; what the others own; true; _7; …; _6; …; _5; …; _4; …; _3; …; _2; …; _1; …; room for _0; …]: it is written over
         assigns-last ! (of-opd ! (var ! 16 refl)) (from ! (hop ! (look ! 8 refl) (stop !))) (store-raw ! 0 {τ = T′.mir} refl (typed new new-is)) $

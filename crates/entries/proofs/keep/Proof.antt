@@ -1,5 +1,5 @@
 -- `entries::keep` meets its contract: a walk of its MIR, by hand.
---     _4 = Entry { rule: 0, place: 0, component: 0 };  _2 = [_4; 2048];  _5 = &mut _2;  _6 = slice of _5 and 2048;  _3 = enter_all(_1, _6);  _7 = _2;  _0 = Store { entries: _7, count: _3 };  return
+--     _4 = Entry { rule: 0, place: 0, component: 0, weighting: 0 };  _2 = [_4; 2048];  _5 = &mut _2;  _6 = slice of _5 and 2048;  _3 = enter_all(_1, _6);  _7 = _2;  _0 = Store { entries: _7, count: _3 };  return
 -- The array is lent for the call, and comes back with the entries, for the store. All that is known of `enter_all` is its contract.
 -- The facts of the array are for any count n of entries, so that no check writes out 2048 of them.
 use mathlib.Core.Path.{_≡_, refl, sym, ap, subst, _∙_}
@@ -88,7 +88,7 @@ abbrev empty : Val
 empty = T′.lowered none
 
 none-is : Is R none (empty ∷ [])
-none-is = LL.owes T.the-type T′.the-laws none ((refl, lit< tt), ((refl, lit< tt), ((refl, lit< tt), tt)))
+none-is = LL.owes T.the-type T′.the-laws none ((refl, lit< tt), ((refl, lit< tt), ((refl, lit< tt), ((refl, lit< tt), tt))))
 
 each-is : (n : ℕ) → shadow (each Entry (R .own) (replicate n none) (replicate n empty))
 each-is zero = tt
@@ -239,7 +239,7 @@ module _ {M : Type 1} (𝓤 : URA M) (H : Heap 𝓤) (A : Atoms 𝓤) (W : Given
         qed W ((‵ (flft κ q) ⊛ ‵ ftrue) ∷ ‵ (owns (ShrSlice (named 0) κ u8 ∷ []) x at) ∷ []) ∵ enter ! C Λ code.function (Walk .args y) _ $
         alloc1 ! (λ l₀. alloc1 ! (λ l₁. alloc1 ! (λ l₂. alloc1 ! (λ l₃. alloc1 ! (λ l₄. alloc1 ! (λ l₅. alloc1 ! (λ l₆. alloc1 ! (λ l₇. alloc0 ! $ params1 ! $ pass1 ! (init ! 12 refl (tt, (tt, (record { fits = room .0 }, tt)))) $ pass0 ! $
         -- [room for _7; …; room for _6; …; room for _5; …; room for _4; …; room for _3; …; room for _2; …; _1; …; room for _0; …; the token; what the argument owns]: the array is made, and the slice of it
-        sets ! (agg ! (and-then ! (lit ! tt) (and-then ! (lit ! tt) (and-then ! (lit ! tt) (no-more !))))) 6 refl (none-typed 𝓤 H A W) $
+        sets ! (agg ! (and-then ! (lit ! tt) (and-then ! (lit ! tt) (and-then ! (lit ! tt) (and-then ! (lit ! tt) (no-more !)))))) 6 refl (none-typed 𝓤 H A W) $
         sets ! (rep ! 2048 (var ! 6 refl)) 10 refl (all-typed 𝓤 H A W 2048) $
         sets ! (addr ! (from ! (stop !))) 4 refl (tt, tt) $
         sets ! (agg ! (and-then ! (var ! 4 refl) (and-then ! (big ! (record { fits = lit< tt })) (no-more !)))) 2 refl (tt, (tt, (record { fits = lit< tt }, tt))) $

@@ -54,29 +54,29 @@ Judged c =
 -- AFTER THE COUNT: the entries that are kept are all of them, and there are as many as pairs
 module _ (c : tie.Else1 Inv-loop μ-loop Inv-loop2 μ-loop2) where
   abbrev begin : tie.Start Inv-loop μ-loop Inv-loop2 μ-loop2
-  begin = c .before .before .before .before .before .before .before .before
+  begin = c .before .before .before .before .before .before .before
 
   abbrev es : List Entry
   es = of-certificate (begin .args .certificate .now)
 
   abbrev store : Store
-  store = c .before .before .keep .result
+  store = begin .args .t2
 
   many : store .count ≡ length es
-  many = c .before .before .keep .ensures .counted
+  many = begin .pre .keeps .counted
 
   count : length es ≡ length (first-pairs (begin .args .starts .now) (begin .args .nodes .now) (begin .args .defined .now) (begin .args .rules))
   count = sym many ∙ c .if1 .left ∙ c .before .count-pairs .ensures
 
   few : store .count ≤ 2048
-  few = omega (arith, many, count, pairs-few (begin .args .starts .now) (begin .args .nodes .now) (begin .args .defined .now) (begin .args .rules) (begin .pre .kept .arrays .laid))
+  few = omega (arith, many, count, pairs-few (begin .args .starts .now) (begin .args .nodes .now) (begin .args .defined .now) (begin .args .rules) (begin .pre .judgeable .kept .arrays .laid))
 
   module _ (k : ℕ) (h : k < store .count) where
     within : k < length es
     within = omega (arith, many)
 
     is-kept : getD (store .entries) k none ≡ getD es k none
-    is-kept = c .before .before .keep .ensures .are few k h
+    is-kept = begin .pre .keeps .are few k h
 
     pair-kept : (j : Judged begin) → is-pair (j .kept .system) (named (getD (store .entries) k none)) ≡ true
     unfolding Names-pairs
@@ -84,7 +84,7 @@ module _ (c : tie.Else1 Inv-loop μ-loop Inv-loop2 μ-loop2) where
 
     slot-small : slot (getD (store .entries) k none) < 2048
     slot-small =
-        let j = begin .pre in
+        let j = begin .pre .judgeable in
         let small = pair-small (j .kept .system) (j .kept .stored .good) _ (pair-kept j) in
         omega (arith, small .0, small .1)
 
@@ -130,7 +130,7 @@ module _ (c : tie.After-roots2 Inv-loop μ-loop Inv-loop2 μ-loop2) where
 wrong-count : tie.Need-returns Inv-loop μ-loop Inv-loop2 μ-loop2
 unfolding Ordered-as
 wrong-count c = λ j.
-    let stated = c .before .before .keep .ensures .counted in
+    let stated = c .before .before .before .before .before .before .before .pre .keeps .counted in
     let there = c .before .count-pairs .ensures in
     sym (eight-counted j (λ e. c .if1 .taken (omega (arith, stated, there, e))))
 
@@ -167,18 +167,18 @@ alone c = λ j. sym (one-alone j (count (counted (c .before))) (single (c .befor
 keys-asked : tie.Need-keep-keys-requires Inv-loop μ-loop Inv-loop2 μ-loop2
 keys-asked c κs =
     let looped-here = c .before .before .before in
-    record { begun = left-sides (begin (counted looped-here) .pre .kept); lows-long = looped-here .before .loop .inv .1 .lows-long; room-long = refl }
+    record { begun = left-sides (begin (counted looped-here) .pre .judgeable .kept); lows-long = looped-here .before .loop .inv .1 .lows-long; room-long = refl }
 
 roots-asked : tie.Need-lowest-of-roots-requires Inv-loop μ-loop Inv-loop2 μ-loop2
 roots-asked c κs =
     let looped-here = c .before .before .before .before .before .before .before in
-    record { begun = left-sides (begin (counted looped-here) .pre .kept); lows-long = looped-here .before .loop .inv .1 .lows-long; room-long = refl }
+    record { begun = left-sides (begin (counted looped-here) .pre .judgeable .kept); lows-long = looped-here .before .loop .inv .1 .lows-long; room-long = refl }
 
 entry-asked : tie.Need-back-from-entry-requires Inv-loop μ-loop Inv-loop2 μ-loop2
 entry-asked c κs =
     let turn = c .before .before .before in
     let kept = turn .before .before in
-    let j = opened kept .pre in
+    let j = opened kept .pre .judgeable in
     record { kept = j .kept; lows = lows kept; keyed = keyed kept; is = pair-kept (counted (looped kept)) (turn .before .loop2 .i) (turn .loop2-test .taken) j }
 
 back : tie.Need-returns-4 Inv-loop μ-loop Inv-loop2 μ-loop2
@@ -223,7 +223,6 @@ judge-spec =
     μ-loop
     Inv-loop2
     μ-loop2
-    (λ c κs. search needs)
     (λ c κs. search needs)
     wrong-count
     loop-holds

@@ -208,13 +208,13 @@ returns c =
     }
 
 -- the numbers have room
-has-room : (c : tie.Start Inv-loop μ-loop) → c .args .first + c .args .count ≤ 3072
+has-room : (c : tie.Start Inv-loop μ-loop) → c .args .first + c .args .count ≤ 2048
 has-room c = omega (arith, c .pre .numbers .room, c .pre .pairs-asked .counted)
 
-its-room : (turn : tie.In-loop Inv-loop μ-loop) → start turn .args .first + turn .before .loop .i < 3072
+its-room : (turn : tie.In-loop Inv-loop μ-loop) → start turn .args .first + turn .before .loop .i < 2048
 its-room turn = omega (arith, has-room (start turn), turn .loop-test .taken)
 
-its-place : (c : tie.After-judge-call Inv-loop μ-loop) → start (pair-turn c) .args .first + pair-turn c .before .loop .i < 3072
+its-place : (c : tie.After-judge-call Inv-loop μ-loop) → start (pair-turn c) .args .first + pair-turn c .before .loop .i < 2048
 its-place c = its-room (pair-turn c)
 
 -- what the loop keeps, after pair i

@@ -3,7 +3,7 @@
 use mathlib.Core.Path.{_≡_, refl, sym, ap, _∙_}
 use mathlib.Core.Bool.{Bool, true, false, not}
 use mathlib.Core.List.{List, _∷_}
-use Prim.Native.Nat.{ℕ, _+_, _*_, _/_, _-_, _<_}
+use Prim.Native.Nat.{ℕ, _+_, _*_, _/_, _-_, _≤_, _<_}
 use native.Mathlib.Omega.{arith}
 use borrow.Author.Needs.{needs}
 use lib.ListN.{length}
@@ -12,7 +12,7 @@ use Rattle.records.specs.Records.{a-record, record-at}
 use Rattle.records.specs.Order.{W-weight}
 use Rattle.polynomials.specs.Polynomials.{Weight}
 use Rattle.checker.specs.Working.{Weights-at, Same-weights, Same-record}
-use Rattle.checker.proofs.Runs.{Goes-on, none-at-other, goes-on}
+use Rattle.checker.proofs.Runs.{Goes-on, none-at-end, none-at-other, goes-on}
 use Rattle.checker.proofs.weighing.same_weights.Statement.{statement}
 use Rattle.checker.proofs.weighing.same_weights.Tie as tie
 
@@ -66,6 +66,14 @@ module _
             alike = λ e. s .alike (v .both ∙ (λ n. first n ∷ e n) ∙ sym (w .both));
           }
 
+-- the second ones end the file, and the first end here
+file-ends : {cert : List ℕ} {from i at : ℕ} {vs ws : List Weight} → Alike cert from i at vs ws → i < length cert / 8 → length cert / 8 ≤ at → {x : Record} →
+    x ≡ record-at cert (8 * i) → (x .kind ≡ W-weight → ⊥) → Same-weights vs ws from at
+file-ends s h past x-read x-other =
+    let x-none = none-at-other (s .vs-stand) h x-read x-other in
+    let y-none = none-at-end (s .ws-stand) past in
+    record { same = s .alike (x-none ∙ sym y-none); passed = omega (arith, s .passed, ap length y-none) }
+
 not-false : (b : Bool) → not b ≡ false → b ≡ true
 not-false true e = refl
 not-false false e = sym e
@@ -110,4 +118,15 @@ same-weights-spec =
           both-go-on (l .inv .1 vs ws a b) (omega (arith, l .inv .0)) in-file (x .record-at .ensures) (y .record-at2 .ensures)
           (differ .if2 .left) (c .before .same-record .ensures (not-false _ (c .if4 .left))),
     ))
+    (λ c. omega arith)
+    (λ c κs. omega arith)
+    (λ c z.
+    let x = c .before .before in
+    let past = x .before .before in
+    let l = past .before .loop in
+    record {
+      earlier = omega (arith, past .before .before .if1 .left);
+      agree = λ vs ws a b. file-ends (l .inv .1 vs ws a b) (x .before .if5 .taken) (past .loop-test .left) (x .record-at3 .ensures) (c .if6 .taken);
+    })
+    (λ c z. absurd (omega arith))
     (λ c z. absurd (omega arith)))

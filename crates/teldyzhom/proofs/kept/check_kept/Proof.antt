@@ -1,7 +1,4 @@
 -- `teldyzhom::kept::check_kept` meets its contract: the certificate's refusal, then the judgement.
-use mathlib.Core.Path.{_≡_, refl}
-use Prim.Native.Nat.{ℕ, zero, suc}
-use lib.ListN.{getD, replicate}
 use borrow.Author.Needs.{needs}
 use Rattle.records.specs.Records.{all-records}
 use Rattle.records.specs.Order.{components-start}
@@ -10,12 +7,6 @@ use Rattle.teldyzhom.specs.Kept.{Check-asked}
 use Rattle.teldyzhom.proofs.Checks.{reading-asked, certificate-refused, Found-as, certificate-found, certificate-stops, judgeable, judge-stops, judge-passes}
 use Rattle.teldyzhom.proofs.kept.check_kept.Statement.{statement}
 use Rattle.teldyzhom.proofs.kept.check_kept.Tie as tie
-
--- numbers that are all 0
-all-zero : (n k : ℕ) → getD (replicate {A = ℕ} n 0) k 0 ≡ 0
-all-zero zero k = refl
-all-zero (suc n) zero = refl
-all-zero (suc n) (suc k) = all-zero n k
 
 abbrev start : tie.After-read-components → tie.Start
 start c = c .before .before .before .before .before .before
@@ -34,9 +25,9 @@ found c a = certificate-found _ _ _ (reading c .read-components .ensures (a .sys
 
 to-judge : tie.Need-judge-requires
 to-judge c κs =
-    let f = c .before .before in
+    let f = c .before in
     let a = start (reading f) .pre in
-    record { read = judgeable a _ (found f a); lefts-long = refl; all-present = all-zero 3072 }
+    judgeable a _ (found f a)
 
 no-certificate : tie.Need-returns
 no-certificate c = λ a.
@@ -46,13 +37,13 @@ no-certificate c = λ a.
 refuses : tie.Need-returns-2
 refuses c = λ a.
     let j = c .before .before .before in
-    let f = j .before .before .before in
-    judge-stops a _ (found f a) _ _ (j .judge .ensures (judgeable a _ (found f a)) .numbered) (c .before .x2 .given .1)
+    let f = j .before .before in
+    judge-stops a _ (found f a) _ _ (j .judge .ensures (judgeable a _ (found f a)) .numbered) (c .before .answer .given .1)
 
 accepts : tie.Need-returns-3
 accepts c = λ a.
     let j = c .before .before in
-    let f = j .before .before .before in
+    let f = j .before .before in
     judge-passes a _ (found f a) _ _ (j .judge .ensures (judgeable a _ (found f a)) .numbered) (c .enum-told .given .1)
 
 pub check-kept-spec : {M : Type 1} → statement M
