@@ -58,7 +58,7 @@ module _ (x y : ℕ) (small-x : x < 256) (small-y : y < 256) where
   high-byte : (x + 256 * y) / 256 % 256 ≡ y
   high-byte = omega arith
 
-two-of-low-two : (v : ℕ) → v < 65536 → v % 256 + 256 * (v / 256 % 256) ≡ v
+pub two-of-low-two : (v : ℕ) → v < 65536 → v % 256 + 256 * (v / 256 % 256) ≡ v
 two-of-low-two v h = omega arith
 
 -- FROM RECORDS TO BYTES AND BACK

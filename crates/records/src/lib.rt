@@ -7,7 +7,7 @@ ghost use mathlib.Core.Bool.{true};
 ghost use mathlib.Core.List.{_++_};
 ghost use Prim.Native.Nat.{_+_, _≤_, _<_};
 ghost use lib.ListN.{length, take, drop};
-ghost use Rattle.records.specs.Records.{two, record-at, record-bytes, all-bytes};
+ghost use Rattle.records.specs.Records.{two, record-at, fields, Word-at, record-bytes, all-bytes};
 ghost use Rattle.records.specs.Order.{rows};
 ghost use Rattle.records.specs.Wanted.{wanted-at};
 ghost use Rattle.records.specs.Answers.{number-of};
@@ -21,6 +21,15 @@ pub const MOST_PAIRS: usize = 2048;
 
 // Document 02's limit on a text's bytes.
 pub const MOST_TEXT_BYTES: usize = 32768;
+
+// What bytes 1, 2, 4 and 6 of a record, where fields begin, count for in its number.
+const BYTE_1: u64 = 0x100;
+
+const BYTE_2: u64 = 0x10000;
+
+const BYTE_4: u64 = 0x100000000;
+
+const BYTE_6: u64 = 0x1000000000000;
 
 // A record as its fields. Byte 0 is the kind, byte 1 is `one`, and a, b and c are two bytes each, low byte first.
 pub struct Record {
@@ -108,18 +117,41 @@ pub fn all_bytes(s: &[u8])
     ensures { λ _. ⌜ all-bytes (now (s .entry)) ≡ true ⌝ }
 {}
 
-fn low(x: u8) -> u16
+fn low(x: u8) -> u64
     ensures { λ r. ⌜ (r ≡ x) × (r < 256) ⌝ }
 {
-    x as u16
+    x as u64
 }
 
 // Bytes i and i + 1 as a number.
-fn two(s: &[u8], i: usize) -> u16
+fn two(s: &[u8], i: usize) -> u64
     requires { ⌜ i + 1 < length (now s) ⌝ }
-    ensures { λ r. ⌜ r ≡ two (now (s .entry)) i ⌝ }
+    ensures { λ r. ⌜ (r ≡ two (now (s .entry)) i) × (r < 65536) ⌝ }
 {
-    low(s[i]) + 256 * low(s[i + 1])
+    low(s[i]) + BYTE_1 * low(s[i + 1])
+}
+
+// The record that begins at byte i, put together as one number.
+pub fn word_at(s: &[u8], i: usize) -> u64
+    requires { ⌜ i + 8 ≤ length (now s) ⌝ }
+    ensures { λ r. ⌜ Word-at (now (s .entry)) i r ⌝ }
+{
+    // For the contract: the fields are found again because these are bytes.
+    all_bytes(s);
+    two(s, i) + BYTE_2 * two(s, i + 2) + BYTE_4 * two(s, i + 4) + BYTE_6 * two(s, i + 6)
+}
+
+// The fields of a record that was put together as a number.
+pub fn fields(word: u64) -> Record
+    ensures { λ r. ⌜ r ≡ fields word ⌝ }
+{
+    Record {
+        kind: (word % BYTE_1) as u8,
+        one: (word / BYTE_1 % BYTE_1) as u8,
+        a: (word / BYTE_2 % BYTE_2) as u16,
+        b: (word / BYTE_4 % BYTE_2) as u16,
+        c: (word / BYTE_6 % BYTE_2) as u16,
+    }
 }
 
 // The record that begins at byte i.
@@ -127,13 +159,7 @@ pub fn record_at(s: &[u8], i: usize) -> Record
     requires { ⌜ i + 8 ≤ length (now s) ⌝ }
     ensures { λ r. ⌜ r ≡ record-at (now (s .entry)) i ⌝ }
 {
-    Record {
-        kind: s[i],
-        one: s[i + 1],
-        a: two(s, i + 2),
-        b: two(s, i + 4),
-        c: two(s, i + 6),
-    }
+    fields(word_at(s, i))
 }
 
 // Writes a record at byte `at`.
