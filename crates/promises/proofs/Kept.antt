@@ -19,6 +19,7 @@ use Rattle.rewriting.proofs.Contexts.{every-redex, every-context, only-redexes,
 use Rattle.rewriting.proofs.DependencyPairs.{dependency-pairs}
 use Rattle.records.specs.Outcomes.{passed, refusal}
 use Rattle.records.proofs.Bytes.{bytes-of-records}
+use Rattle.records.proofs.Words.{fields-of-word, nth-byte, word-small, word-of-fields}
 use Rattle.records.proofs.Outcomes.{refusal-within}
 use Rattle.packs.specs.PackReading as packs
 use Rattle.packs.specs.PackReading.{pack-refusal, pack-in, read-pack}
@@ -61,7 +62,7 @@ use Rattle.texts.proofs.ReadBack.{text-read-back}
 use Rattle.promises.specs.Promises
 use Rattle.promises.proofs.Numbers.{counted}
 use Rattle.promises.proofs.Refusing.{pack-cut, only-cut, pack-refuses, failing-refused, certificate-cut, only-certificate-cut, certificate-refuses, failing-certificate, pack-given, certificate-given, either-refuses, either-given, only-pack, only-certificate}
-use Rattle.promises.proofs.Starred.{starred-cases, several-cases, other-numbers, list-short, list-fills, division-arcs, division-sizes, division-pairs}
+use Rattle.promises.proofs.Starred.{starred-cases, several-cases, other-numbers, list-short, list-fills, division-arcs, division-sizes, division-pairs, one-word}
 use Rattle.promises.proofs.Texts.{division-given, division-long, division-accepted, text-answers}
 use Rattle.promises.proofs.Loop.{loop-checked}
 use Rattle.promises.proofs.Largest.{largest-read, largest-long, longest-read, longest-long, dense-read, dense-long, brink-accepted, brink-heavy}
@@ -149,6 +150,18 @@ arc-range-kept bs q r =
 pub records-back : Promises.Records-back
 unfolding Promises.Records-back
 records-back bs b e = bytes-of-records bs b e
+
+pub words-give-fields : Promises.Words-give-fields
+unfolding Promises.Words-give-fields
+words-give-fields bs i b = fields-of-word bs b i
+
+pub words-are-bytes : Promises.Words-are-bytes
+unfolding Promises.Words-are-bytes
+words-are-bytes bs i b = (nth-byte bs b 8 i, word-small bs b i)
+
+pub words-back : Promises.Words-back
+unfolding Promises.Words-back
+words-back w h = word-of-fields w h
 
 pub pack-is-read : Promises.Pack-is-read
 unfolding Promises.Pack-is-read pack-refusal
@@ -528,6 +541,10 @@ concrete-arcs = division-arcs
 pub division-sizes-kept : Promises.Division-sizes
 unfolding Promises.Division-sizes
 division-sizes-kept = (division-sizes .0, division-sizes .1, division-pairs)
+
+pub concrete-word : Promises.Concrete-word
+unfolding Promises.Concrete-word
+concrete-word = one-word
 
 pub loop-refused : Promises.Loop-refused
 unfolding Promises.Loop-refused

@@ -5,6 +5,7 @@ use mathlib.Core.List.{[], _∷_, map}
 use Prim.Native.Nat.{ℕ}
 use lib.ListN.{length}
 use Rattle.records.specs.Outcomes.{refused, passed}
+use Rattle.records.specs.Records.{number-at, word-at, fields}
 use Rattle.pairs.specs.Listing.{a-pair, pairs}
 use Rattle.pairs.specs.Answers.{listing, arc-question}
 use Rattle.packs.specs.Encoding.{pack-bytes}
@@ -62,6 +63,12 @@ division-sizes = (refl, refl)
 pub division-pairs : pairs division ≡ a-pair 1 0 ∷ a-pair 3 1 ∷ a-pair 3 2 ∷ []
 unfolding computed
 division-pairs = refl
+
+-- eight bytes that differ, as a number, and its fields
+pub one-word : (word-at (0 ∷ 1 ∷ 2 ∷ 3 ∷ 4 ∷ 5 ∷ 6 ∷ 7 ∷ []) 0 ≡ 506097522914230528)
+    × (fields 506097522914230528 ≡ record { kind = 0; one = 1; a = 770; b = 1284; c = 1798 })
+unfolding number-at fields
+one-word = (refl, refl)
 
 -- a pair whose right side is a proper subterm of its left side is listed too
 pub shrinking-listed : pairs shrinking ≡ shrinking-pairs

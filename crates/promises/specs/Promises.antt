@@ -4,7 +4,7 @@ use mathlib.Core.Path.{_≡_}
 use mathlib.Core.Bool.{Bool, true, false, _&&_, _||_, cond}
 use mathlib.Core.List.{List, [], _∷_, _++_, map}
 use mathlib.Core.Logic.{_⊎_}
-use Prim.Native.Nat.{ℕ, suc, _*_, _%_, _≤_, _<_}
+use Prim.Native.Nat.{ℕ, suc, _+_, _*_, _/_, _%_, _^_, _≤_, _<_}
 use lib.ListN.{length, getD, take}
 use Rattle.rewriting.specs.Terms.{Tree, Rule, System, rule, is-list, is-term, Substitution, substituted, Over}
 use Rattle.rewriting.specs.Steps.{full, Step}
@@ -15,7 +15,7 @@ use Rattle.rewriting.specs.Chains.{Link, Valid, Next, Terminating, Chains-termi
 use Rattle.rewriting.specs.Systems.{Good, member, variables-below, is-app, variables, all-in}
 use Rattle.records.specs.declared.Record.{Record}
 use Rattle.records.specs.Outcomes.{refused, passed, refusal}
-use Rattle.records.specs.Records.{record-at, a-record, all-bytes, all-records, all-record-bytes, length-bad}
+use Rattle.records.specs.Records.{record-at, word-at, fields, record-bytes, a-record, all-bytes, all-records, all-record-bytes, length-bad}
 use Rattle.records.specs.Order.{P-pair, pack-edge, certificate-edge, certificate-start, obeys}
 use Rattle.records.specs.Rising.{rising}
 use Rattle.packs.specs.PackReading as packs
@@ -123,6 +123,20 @@ Arc-range = (bs : List ℕ) (q r : Pair) → member (refusal (arc-question bs q 
 -- A file is its records.
 unfoldable pub Records-back : Type 0
 Records-back = (bs : List ℕ) → all-bytes bs ≡ true → length bs % 8 ≡ 0 → all-record-bytes (all-records bs) ≡ bs
+
+-- Document 02, N3: of a record put together as one 64-bit number, byte 0 lowest, each field taken from that is the one that its bytes
+-- give;
+unfoldable pub Words-give-fields : Type 0
+Words-give-fields = (bs : List ℕ) (i : ℕ) → all-bytes bs ≡ true → fields (word-at bs i) ≡ record-at bs i
+
+-- the number has the record's eight bytes and nothing else,
+unfoldable pub Words-are-bytes : Type 0
+Words-are-bytes =
+    (bs : List ℕ) (i : ℕ) → all-bytes bs ≡ true → ((k : ℕ) → k < 8 → word-at bs i / 256 ^ k % 256 ≡ getD bs (i + k) 0) × (word-at bs i < 2 ^ 64)
+
+-- and each 64-bit number is that of some record: of the bytes of its fields.
+unfoldable pub Words-back : Type 0
+Words-back = (w : ℕ) → w < 2 ^ 64 → word-at (record-bytes (fields w)) 0 ≡ w
 
 -- Of a pack that passes 1 to 6, `pack-in` is the system read.
 unfoldable pub Pack-is-read : Type 0
@@ -566,6 +580,12 @@ Division-sizes =
     (length (pack-bytes division) ≡ 296)
     × (length (certificate-bytes division-shown) ≡ 128)
     × (pairs division ≡ a-pair 1 0 ∷ a-pair 3 1 ∷ a-pair 3 2 ∷ [])
+
+-- The bytes 0 to 7 as a record, its number, and the fields taken from that.
+unfoldable pub Concrete-word : Type 0
+Concrete-word =
+    (word-at (0 ∷ 1 ∷ 2 ∷ 3 ∷ 4 ∷ 5 ∷ 6 ∷ 7 ∷ []) 0 ≡ 506097522914230528)
+    × (fields 506097522914230528 ≡ record { kind = 0; one = 1; a = 770; b = 1284; c = 1798 })
 
 -- a → a with any single weighting: 13, whatever the certificate's bytes.
 unfoldable pub Loop-refused : Type 0
