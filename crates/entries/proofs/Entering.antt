@@ -2,7 +2,7 @@
 --     entered-within, entered-past          the place is there, or lies past all entries
 --     Turn         before record i: the number of the component and the count of the pairs so far, and the entries, which have these pairs
 --     start        before record 0
---     Numbered, Placed, Made, Entered, Counted     what the calls of a turn say of the component's number, the place, the entry, the entries after it, and the count
+--     Fetched, Numbered, Placed, Made, Entered, Counted     what the calls of a turn say of the record as a number, the component's number, the place, the entry, the entries after it, and the count
 --     goes-on      before record i + 1
 --     ends         no record is left
 use mathlib.Core.Path.{_≡_, refl, sym, ap, _∙_}
@@ -16,8 +16,8 @@ use lib.ListN.{length, getD, set, drop, length-append, drop-of-length-le, List·
 use lib.Seq.{append-snoc, getD-append-seam, getD-set-same, getD-set-other}
 use borrow.Author.Tests.{lt-ltb, le-ltb, ltb-true, ltb-false}
 use Rattle.records.specs.declared.Record.{Record}
-use Rattle.records.specs.Records.{record-at, all-records}
-use Rattle.records.specs.Order.{P-pair}
+use Rattle.records.specs.Records.{all-records, fields, Word-at}
+use Rattle.records.specs.Order.{C-component, P-pair}
 use Rattle.records.proofs.Bytes.{length-of-records, drop-records}
 use Rattle.entries.specs.Entries.{none, numbered, entry, entries-of, with-entry, Keeps}
 use Rattle.entries.specs.declared.Entry.{Entry}
@@ -94,28 +94,34 @@ module _ (bs : List ℕ) where
   }
 
   module _ (t : Turn) where
-    abbrev here : Record
-    here = record-at bs (8 * t .i)
-
-    abbrev is-pair : Bool
-    is-pair = eqb (here .kind) P-pair
-
     module _ (more : t .i < many) where
-      -- m is the number of the component, s the place, e the entry; zs are the entries after the turn, and c is the count
-      abbrev pub Numbered : (m : ℕ) → Type 0
-      Numbered m = (m ≡ numbered (t .number) here) × (m ≤ t .i + 1)
+      -- w is record i as a number, m the number of the component, s the place, e the entry; zs are the entries after the turn, and c is the count
+      abbrev pub Fetched : (w : ℕ) → Type 0
+      Fetched w = Word-at bs (8 * t .i) w
 
-      abbrev pub Placed : (s : ℕ) → Type 0
-      Placed s = s ≡ cond is-pair (t .count) 2048
+      abbrev pub Numbered : (w m : ℕ) → Type 0
+      Numbered w m = m ≡ numbered (t .number) (fields w)
 
-      abbrev pub Made : (m : ℕ) (e : Entry) → Type 0
-      Made m e = e ≡ entry here m
+      abbrev pub Placed : (w s : ℕ) → Type 0
+      Placed w s = s ≡ cond (eqb (fields w .kind) P-pair) (t .count) 2048
+
+      abbrev pub Made : (w m : ℕ) (e : Entry) → Type 0
+      Made w m e = e ≡ entry (fields w) m
 
       abbrev pub Entered : (s : ℕ) (e : Entry) (zs : List Entry) → Type 0
       Entered s e zs = zs ≡ with-entry (t .entries) s e
 
-      abbrev pub Counted : (c : ℕ) → Type 0
-      Counted c = c ≡ cond is-pair (suc (t .count)) (t .count)
+      abbrev pub Counted : (w c : ℕ) → Type 0
+      Counted w c = c ≡ cond (eqb (fields w .kind) P-pair) (suc (t .count)) (t .count)
+
+      -- the number goes up by one at most
+      pub next-few : (w : ℕ) {m : ℕ} → Numbered w m → m ≤ t .i + 1
+      unfolding numbered
+      next-few w e = rw e (go (eqb (fields w .kind) C-component))
+        where
+          go : (b : Bool) → cond b (suc (t .number)) (t .number) ≤ t .i + 1
+          go true = omega (arith, t .few)
+          go false = omega (arith, t .few)
 
       pub nearer : many - (t .i + 1) < many - t .i
       nearer = omega arith
@@ -123,76 +129,84 @@ module _ (bs : List ℕ) where
       abbrev after : List Record
       after = drop (t .i + 1) (all-records bs)
 
-      first-left : all ≡ t .so-far .named ++ entries-of (t .number) (here ∷ after)
-      first-left =
-          let one-on : suc (t .i) ≡ t .i + 1 = omega arith in
-          t .so-far .left ∙ ap (λ (rs : List Record). t .so-far .named ++ entries-of (t .number) rs) (drop-records bs (t .i) more ∙ ap (λ (j : ℕ). here ∷ drop j (all-records bs)) one-on)
+      module _ {w : ℕ} (is-w : Fetched w) where
+        abbrev here : Record
+        here = fields w
 
-      -- the record's pair is named after the others, and stands at the next place
-      abbrev m′ : ℕ
-      m′ = numbered (t .number) here
+        abbrev is-pair : Bool
+        is-pair = eqb (here .kind) P-pair
 
-      abbrev e′ : Entry
-      e′ = entry here m′
+        first-left : all ≡ t .so-far .named ++ entries-of (t .number) (here ∷ after)
+        first-left =
+            let one-on : suc (t .i) ≡ t .i + 1 = omega arith in
+            t .so-far .left
+            ∙ ap (λ (rs : List Record). t .so-far .named ++ entries-of (t .number) rs) (drop-records bs (t .i) more ∙ rw (one-on, ← is-w .record-is) refl)
 
-      one-named : is-pair ≡ true → So-far (t .i + 1) m′ (suc (t .count)) (with-entry (t .entries) (t .count) e′)
-      one-named p = record {
-        named = t .so-far .named ++ (e′ ∷ []);
-        counted = length-append (t .so-far .named) (e′ ∷ []) ∙ ap (λ (k : ℕ). k + 1) (t .so-far .counted) ∙ omega arith;
-        left = first-left ∙ ap (λ (xs : List Entry). t .so-far .named ++ xs) (pair-first (t .number) here after p) ∙ sym (append-snoc (t .so-far .named) e′ (entries-of m′ after));
-        are = λ k small there. go k there (ltb k (t .count)) refl small;
-      }
-        where
-          go : (k : ℕ) → k < 2048 → (b : Bool) → ltb k (t .count) ≡ b → k < suc (t .count) → getD (with-entry (t .entries) (t .count) e′) k none ≡ getD (t .so-far .named ++ (e′ ∷ [])) k none
-          go k there true b small =
-              let before : k < t .count = ltb-true k (t .count) b in
-              let c = t .so-far .counted in
-              entered-elsewhere (t .entries) (t .count) e′ k (λ same. absurd (omega arith)) ∙ t .so-far .are k before there
-              ∙ sym (List·getD-append (t .so-far .named) (e′ ∷ []) none k (omega arith))
-          go k there false b small =
-              let past : t .count ≤ k = ltb-false k (t .count) b in
-              let c = t .so-far .counted in
-              let l = t .long in
-              let at-count : k ≡ t .count = omega arith in
-              let at-end : k ≡ length (t .so-far .named) = omega arith in
-              ap (λ (j : ℕ). getD (with-entry (t .entries) (t .count) e′) j none) at-count ∙ entered-here (t .entries) (t .count) e′ (omega arith)
-              ∙ sym (ap (λ (j : ℕ). getD (t .so-far .named ++ (e′ ∷ [])) j none) at-end ∙ getD-append-seam (t .so-far .named) e′ [] none)
+        -- the record's pair is named after the others, and stands at the next place
+        abbrev m′ : ℕ
+        m′ = numbered (t .number) here
 
-      none-named : is-pair ≡ false → So-far (t .i + 1) m′ (t .count) (with-entry (t .entries) 2048 e′)
-      none-named p = record {
-        named = t .so-far .named;
-        counted = t .so-far .counted;
-        left = first-left ∙ ap (λ (xs : List Entry). t .so-far .named ++ xs) (other-first (t .number) here after p);
-        are = λ k small there. entered-elsewhere (t .entries) 2048 e′ k (λ same. absurd (omega arith)) ∙ t .so-far .are k small there;
-      }
+        abbrev e′ : Entry
+        e′ = entry here m′
 
-      module _ {m s c : ℕ} {e : Entry} {zs : List Entry} (is-m : Numbered m) (is-s : Placed s) (is-e : Made m e) (said : Entered s e zs) (is-c : Counted c) where
-        pub next-so-far : So-far (t .i + 1) m c zs
-        next-so-far = rw (said, is-c, is-s, is-e, is-m .0) (go is-pair refl)
-          where
-            go : (b : Bool) → is-pair ≡ b → So-far (t .i + 1) m′ (cond b (suc (t .count)) (t .count)) (with-entry (t .entries) (cond b (t .count) 2048) e′)
-            go true p = one-named p
-            go false p = none-named p
-
-        pub next-fewer : c ≤ t .i + 1
-        next-fewer = rw is-c (go is-pair)
-          where
-            go : (b : Bool) → cond b (suc (t .count)) (t .count) ≤ t .i + 1
-            go true = omega arith
-            go false = omega arith
-
-        abbrev pub goes-on : length zs ≡ length (t .entries) → Turn
-        goes-on l = record {
-          i = t .i + 1;
-          number = m;
-          count = c;
-          entries = zs;
-          within = omega arith;
-          few = is-m .1;
-          fewer = next-fewer;
-          long = l ∙ t .long;
-          so-far = next-so-far;
+        one-named : is-pair ≡ true → So-far (t .i + 1) m′ (suc (t .count)) (with-entry (t .entries) (t .count) e′)
+        one-named p = record {
+          named = t .so-far .named ++ (e′ ∷ []);
+          counted = length-append (t .so-far .named) (e′ ∷ []) ∙ ap (λ (k : ℕ). k + 1) (t .so-far .counted) ∙ omega arith;
+          left = first-left ∙ ap (λ (xs : List Entry). t .so-far .named ++ xs) (pair-first (t .number) here after p) ∙ sym (append-snoc (t .so-far .named) e′ (entries-of m′ after));
+          are = λ k small there. go k there (ltb k (t .count)) refl small;
         }
+          where
+            go : (k : ℕ) → k < 2048 → (b : Bool) → ltb k (t .count) ≡ b → k < suc (t .count) → getD (with-entry (t .entries) (t .count) e′) k none ≡ getD (t .so-far .named ++ (e′ ∷ [])) k none
+            go k there true b small =
+                let before : k < t .count = ltb-true k (t .count) b in
+                let c = t .so-far .counted in
+                entered-elsewhere (t .entries) (t .count) e′ k (λ same. absurd (omega arith)) ∙ t .so-far .are k before there
+                ∙ sym (List·getD-append (t .so-far .named) (e′ ∷ []) none k (omega arith))
+            go k there false b small =
+                let past : t .count ≤ k = ltb-false k (t .count) b in
+                let c = t .so-far .counted in
+                let l = t .long in
+                let at-count : k ≡ t .count = omega arith in
+                let at-end : k ≡ length (t .so-far .named) = omega arith in
+                ap (λ (j : ℕ). getD (with-entry (t .entries) (t .count) e′) j none) at-count ∙ entered-here (t .entries) (t .count) e′ (omega arith)
+                ∙ sym (ap (λ (j : ℕ). getD (t .so-far .named ++ (e′ ∷ [])) j none) at-end ∙ getD-append-seam (t .so-far .named) e′ [] none)
+
+        none-named : is-pair ≡ false → So-far (t .i + 1) m′ (t .count) (with-entry (t .entries) 2048 e′)
+        none-named p = record {
+          named = t .so-far .named;
+          counted = t .so-far .counted;
+          left = first-left ∙ ap (λ (xs : List Entry). t .so-far .named ++ xs) (other-first (t .number) here after p);
+          are = λ k small there. entered-elsewhere (t .entries) 2048 e′ k (λ same. absurd (omega arith)) ∙ t .so-far .are k small there;
+        }
+
+        module _ {m s c : ℕ} {e : Entry} {zs : List Entry} (is-m : Numbered w m) (is-s : Placed w s) (is-e : Made w m e) (said : Entered s e zs) (is-c : Counted w c) where
+          pub next-so-far : So-far (t .i + 1) m c zs
+          next-so-far = rw (said, is-c, is-s, is-e, is-m) (go is-pair refl)
+            where
+              go : (b : Bool) → is-pair ≡ b → So-far (t .i + 1) m′ (cond b (suc (t .count)) (t .count)) (with-entry (t .entries) (cond b (t .count) 2048) e′)
+              go true p = one-named p
+              go false p = none-named p
+
+          pub next-fewer : c ≤ t .i + 1
+          next-fewer = rw is-c (go is-pair)
+            where
+              go : (b : Bool) → cond b (suc (t .count)) (t .count) ≤ t .i + 1
+              go true = omega arith
+              go false = omega arith
+
+          abbrev pub goes-on : length zs ≡ length (t .entries) → Turn
+          goes-on l = record {
+            i = t .i + 1;
+            number = m;
+            count = c;
+            entries = zs;
+            within = omega arith;
+            few = next-few w is-m;
+            fewer = next-fewer;
+            long = l ∙ t .long;
+            so-far = next-so-far;
+          }
 
     pub ends : many ≤ t .i → Keeps (all-records bs) (record { count = t .count; entries = t .entries })
     ends over = record {

@@ -2,10 +2,10 @@
 use records::MOST_PAIRS;
 ghost use mathlib.Core.Path.{_≡_};
 ghost use mathlib.Core.Bool.{cond};
-ghost use Prim.Native.Nat.{suc, _%_, _*_, _+_, _≤_};
+ghost use Prim.Native.Nat.{suc, _%_, _≤_, _<_};
 ghost use lib.Dec.{eqb};
 ghost use lib.ListN.{length};
-ghost use Rattle.records.specs.Records.{all-records, record-at};
+ghost use Rattle.records.specs.Records.{all-records, fields};
 ghost use Rattle.records.specs.Order.{P-pair};
 ghost use Rattle.entries.specs.Entries.{numbered, entry, with-entry, Keeps, telling, Has-room, Told};
 
@@ -23,48 +23,46 @@ pub struct Store {
     pub count: usize,
 }
 
-// The number of the component that record i belongs to.
-fn numbered_at(certificate: &[u8], i: usize, before: u16) -> u16
-    requires { ⌜ (8 * i + 8 ≤ length (now certificate)) × (before ≤ i) × (i ≤ 4096) ⌝ }
-    ensures { λ r. ⌜ (r ≡ numbered before (record-at (now (certificate .entry)) (8 * i))) × (r ≤ i + 1) ⌝ }
+// The number of the component that a record belongs to.
+fn numbered(word: u64, before: u16) -> u16
+    requires { ⌜ before < 65535 ⌝ }
+    ensures { λ r. ⌜ r ≡ numbered before (fields word) ⌝ }
 {
-    let r = records::record_at(certificate, 8 * i);
+    let r = records::fields(word);
     if r.kind == b'C' {
         return before + 1;
     }
     before
 }
 
-// The place of record i's entry: after the count entries before it, or past all entries if it names no pair.
-fn place_at(certificate: &[u8], i: usize, count: usize) -> usize
-    requires { ⌜ 8 * i + 8 ≤ length (now certificate) ⌝ }
-    ensures { λ r. ⌜ r ≡ cond (eqb (record-at (now (certificate .entry)) (8 * i) .kind) P-pair) count 2048 ⌝ }
+// The place of a record's entry: after the count entries before it, or past all entries if it names no pair.
+fn place_of(word: u64, count: usize) -> usize
+    ensures { λ r. ⌜ r ≡ cond (eqb (fields word .kind) P-pair) count 2048 ⌝ }
 {
-    let r = records::record_at(certificate, 8 * i);
+    let r = records::fields(word);
     if r.kind == b'P' {
         return count;
     }
     MOST_PAIRS
 }
 
-// How many pairs there are up to and with record i.
-fn counted_at(certificate: &[u8], i: usize, count: usize) -> usize
-    requires { ⌜ (8 * i + 8 ≤ length (now certificate)) × (count ≤ i) × (i ≤ 4096) ⌝ }
-    ensures { λ r. ⌜ r ≡ cond (eqb (record-at (now (certificate .entry)) (8 * i) .kind) P-pair) (suc count) count ⌝ }
+// How many pairs there are up to and with a record.
+fn counted(word: u64, count: usize) -> usize
+    requires { ⌜ count ≤ 4096 ⌝ }
+    ensures { λ r. ⌜ r ≡ cond (eqb (fields word .kind) P-pair) (suc count) count ⌝ }
 {
-    let r = records::record_at(certificate, 8 * i);
+    let r = records::fields(word);
     if r.kind == b'P' {
         return count + 1;
     }
     count
 }
 
-// The entry that record i gives.
-fn entry_at(certificate: &[u8], i: usize, component: u16) -> Entry
-    requires { ⌜ 8 * i + 8 ≤ length (now certificate) ⌝ }
-    ensures { λ r. ⌜ r ≡ entry (record-at (now (certificate .entry)) (8 * i)) component ⌝ }
+// The entry that a record gives.
+fn entry_of(word: u64, component: u16) -> Entry
+    ensures { λ r. ⌜ r ≡ entry (fields word) component ⌝ }
 {
-    let r = records::record_at(certificate, 8 * i);
+    let r = records::fields(word);
     Entry {
         rule: (r.a % 256) as u8,
         place: (r.b % 256) as u8,
@@ -92,11 +90,12 @@ fn enter_all(certificate: &[u8], entries: &mut [Entry]) -> usize
     let mut count = 0;
     let mut i = 0;
     while i < n {
-        number = numbered_at(certificate, i, number);
-        let at = place_at(certificate, i, count);
-        let entry = entry_at(certificate, i, number);
+        let word = records::word_at(certificate, 8 * i);
+        number = numbered(word, number);
+        let at = place_of(word, count);
+        let entry = entry_of(word, number);
         enter(entries, at, entry);
-        count = counted_at(certificate, i, count);
+        count = counted(word, count);
         i = i + 1;
     }
     count
