@@ -2,7 +2,7 @@
 use mathlib.Core.Path.{_≡_, refl, sym, ap, _∙_}
 use mathlib.Core.Bool.{Bool, true, false, cond}
 use mathlib.Core.List.{List, [], _∷_, map}
-use Prim.Native.Nat.{ℕ, zero, suc, _+_, _-_, _≤_, _<_}
+use Prim.Native.Nat.{ℕ, zero, suc, _+_, _*_, _-_, _≤_, _<_}
 use native.Mathlib.Nat.{zero-add, add-zero}
 use native.Mathlib.Numerals.{add-one}
 use native.Mathlib.Omega.{arith}
@@ -15,7 +15,8 @@ use Rattle.rewriting.specs.Pairs.{Pair}
 use Rattle.records.specs.declared.Answer.the-variants.{Passed, Refused}
 use Rattle.records.specs.declared.Refusal.{Refusal}
 use Rattle.records.specs.Answers.{number-of, answer-outcome}
-use Rattle.records.specs.Records.{all-records}
+use Rattle.records.specs.declared.Record.{Record}
+use Rattle.records.specs.Records.{record-at, all-records}
 use Rattle.pairs.specs.Listing.{a-pair}
 use Rattle.polynomials.specs.Judging.{left-under}
 use Rattle.certificates.specs.Components.{Component, no-component}
@@ -106,18 +107,18 @@ module _ {cert : List ℕ} {components rules : ℕ} {ar ss ns ms lefts₀ : List
       unfolding left-under
       all-present = record { long = s .lefts-long; room = room; told = λ k l. s .fresh (first + k) (omega arith) }
 
-      abbrev pub asked : Marked-is table [] → Component-asked cert at first before rules ar ss ns ms table lefts
-      asked unmarked =
-          record { there = there; kept = a .kept; fits = a .fit i in-range; unmarked = unmarked; known = s .known; all-present = all-present }
+      abbrev pub asked : {header : Record} → header ≡ record-at cert (8 * at) → Marked-is table [] → Component-asked cert at header first before rules ar ss ns ms table lefts
+      asked read unmarked =
+          record { there = there; read = read; kept = a .kept; fits = a .fit i in-range; unmarked = unmarked; known = s .known; all-present = all-present }
 
       -- IT IS JUDGED
       abbrev number : ℕ
       number = component-refusal p (plain p) component
 
-      module _ (unmarked : Marked-is table []) {after lefts′ : List ℕ} {found-here : Found}
-          (d : Component-answered cert at first before rules ar ss ns ms table after lefts lefts′ found-here) where
+      module _ {header : Record} (read : header ≡ record-at cert (8 * at)) (unmarked : Marked-is table []) {after lefts′ : List ℕ} {found-here : Found}
+          (d : Component-answered cert at header first before rules ar ss ns ms table after lefts lefts′ found-here) where
         judged : Component-judged p component at (found-here .answer)
-        judged = d .judged (asked unmarked)
+        judged = d .judged (asked read unmarked)
 
         pub refuses : (x : Refusal) → found-here .answer ≡ Refused x → number-of x ≡ components-refusal p (plain p) all
         unfolding Component-judged answered
@@ -165,11 +166,11 @@ module _ {cert : List ℕ} {components rules : ℕ} {ar ss ns ms lefts₀ : List
           pub goes-on : {count : ℕ} → length (component .pairs) ≡ count → Left next (first + count) (i + 1) (found-here .weights) after lefts′
           unfolding Known-after record-count
           goes-on {count} counted =
-              let others-stay = d .others (asked unmarked) in
+              let others-stay = d .others (asked read unmarked) in
               record {
                 are = rw (found .1, add-one) (next-component (there .stands));
                 number = rw add-one (number-here ∙ rw (found .0));
-                known = rw (found .1) (d .known (asked unmarked) accepted);
+                known = rw (found .1) (d .known (asked read unmarked) accepted);
                 pairs-left = rw (add-one, ← counted) (let e = pairs-here in omega arith);
                 lefts-long = others-stay .long ∙ s .lefts-long;
                 fresh = λ k l. others-stay .higher k (omega (arith, counted)) ∙ s .fresh k (omega arith);
@@ -181,9 +182,9 @@ module _ {cert : List ℕ} {components rules : ℕ} {ar ss ns ms lefts₀ : List
               told-now k l = by (ltb k first) refl
                 where
                   by : (b : Bool) → ltb k first ≡ b → getD lefts′ k 0 ≡ getD (all-left-under p all) k 0
-                  by true t = let h = ltb-true k first t in d .others (asked unmarked) .lower k h ∙ s .told k h
+                  by true t = let h = ltb-true k first t in d .others (asked read unmarked) .lower k h ∙ s .told k h
                   by false t =
                       let h = ltb-false k first t in
                       let e : first + (k - first) ≡ k = omega arith in
                       let here : k - first < length (component .pairs) = omega (arith, counted) in
-                      rw e at (d .numbers (asked unmarked) accepted .told (k - first) here ∙ sym (ahead-here (k - first) here))
+                      rw e at (d .numbers (asked read unmarked) accepted .told (k - first) here ∙ sym (ahead-here (k - first) here))

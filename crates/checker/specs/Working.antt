@@ -3,7 +3,7 @@
 use mathlib.Core.Path.{_≡_}
 use mathlib.Core.Bool.{Bool, true, false, _&&_, _||_, not, cond}
 use mathlib.Core.List.{List, [], _∷_, _++_, map}
-use Prim.Native.Nat.{ℕ, suc, _+_, _≤_, _<_}
+use Prim.Native.Nat.{ℕ, suc, _+_, _*_, _≤_, _<_}
 use lib.Dec.{ltb, eqb}
 use lib.ListN.{length, getD, drop}
 use Rattle.rewriting.specs.Terms.{System, Rule}
@@ -13,7 +13,7 @@ use Rattle.records.specs.declared.Answer.{Answer}
 use Rattle.records.specs.Outcomes.{Outcome, refused, passed, refusal}
 use Rattle.records.specs.Order.{W-weight, M-marked}
 use Rattle.records.specs.Files.{Whole}
-use Rattle.records.specs.Records.{all-records}
+use Rattle.records.specs.Records.{record-at, all-records}
 use Rattle.records.specs.Rising.{rising}
 use Rattle.records.specs.Answers.{answer-outcome}
 use Rattle.pair_finder.specs.Walking.{System-kept}
@@ -405,23 +405,24 @@ pub record Weighted-judged (certificate : List ℕ) (at count weightings first b
       Numbers-tell (a .asked .kept .system) (a .there .component .weightings) (a .there .component .pairs) first lefts-after
 
 -- with any number
-pub record Component-asked (certificate : List ℕ) (at first before rules : ℕ) (arities starts nodes flags table lefts : List ℕ) : Type 0 where
+pub record Component-asked (certificate : List ℕ) (at : ℕ) (header : Record) (first before rules : ℕ) (arities starts nodes flags table lefts : List ℕ) : Type 0 where
   pub there : Component-there certificate at
+  pub read : header ≡ record-at certificate (8 * at)
   pub kept : System-kept rules arities starts nodes flags
   pub fits : Component-fits (kept .system) (there .component)
   pub unmarked : Marked-is table []
   pub known : Rules-known (kept .system) certificate at before table
   pub all-present : Numbers-tell (kept .system) [] (there .component .pairs) first lefts
 
-pub record Component-answered (certificate : List ℕ) (at first before rules : ℕ) (arities starts nodes flags table after lefts lefts-after : List ℕ) (r : Found) : Type 0 where
+pub record Component-answered (certificate : List ℕ) (at : ℕ) (header : Record) (first before rules : ℕ) (arities starts nodes flags table after lefts lefts-after : List ℕ) (r : Found) : Type 0 where
   pub unmarked : Marked-is after []
-  pub others : (a : Component-asked certificate at first before rules arities starts nodes flags table lefts) →
+  pub others : (a : Component-asked certificate at header first before rules arities starts nodes flags table lefts) →
       Others-as-before first (first + length (a .there .component .pairs)) lefts lefts-after
-  pub judged : (a : Component-asked certificate at first before rules arities starts nodes flags table lefts) →
+  pub judged : (a : Component-asked certificate at header first before rules arities starts nodes flags table lefts) →
       Component-judged (a .kept .system) (a .there .component) at (r .answer)
-  pub known : (a : Component-asked certificate at first before rules arities starts nodes flags table lefts) →
+  pub known : (a : Component-asked certificate at header first before rules arities starts nodes flags table lefts) →
       Known-after (a .kept .system) (a .there .component) certificate at (r .weights) after
-  pub numbers : (a : Component-asked certificate at first before rules arities starts nodes flags table lefts) →
+  pub numbers : (a : Component-asked certificate at header first before rules arities starts nodes flags table lefts) →
       component-refusal (a .kept .system) (plain (a .kept .system)) (a .there .component) ≡ 0 →
       Numbers-tell (a .kept .system) (a .there .component .weightings) (a .there .component .pairs) first lefts-after
 

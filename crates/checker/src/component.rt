@@ -2,6 +2,7 @@
 use crate::weighing::Tally;
 use records::Answer;
 use records::MOST_PAIRS;
+use records::Record;
 use records::Refusal;
 use terms::MOST_SYMBOLS;
 use terms::NODES_ROOM;
@@ -270,10 +271,11 @@ fn unweighted(
     Answer::Passed(at + 2)
 }
 
-// The component whose C record is record `at`.
+// The component whose C record, `header`, is record `at`.
 fn judge_component(
     certificate: &[u8],
     at: usize,
+    header: Record,
     first: usize,
     before: usize,
     table: &mut [u16; CELLS],
@@ -284,11 +286,10 @@ fn judge_component(
     defined: &[u8],
     rules: usize,
 ) -> Found
-    requires { ⌜ Component-asked (now certificate) at first before rules (now arities) (now starts) (now nodes) (now defined) (now table) (now lefts) ⌝ }
-    ensures { λ r. ⌜ Component-answered (now (certificate .entry)) at first before rules (now (arities .entry)) (now (starts .entry)) (now (nodes .entry)) (now (defined .entry)) (now (table .entry)) (now (table .exit)) (now (lefts .entry)) (now (lefts .exit)) r ⌝ }
+    requires { ⌜ Component-asked (now certificate) at header first before rules (now arities) (now starts) (now nodes) (now defined) (now table) (now lefts) ⌝ }
+    ensures { λ r. ⌜ Component-answered (now (certificate .entry)) at header first before rules (now (arities .entry)) (now (starts .entry)) (now (nodes .entry)) (now (defined .entry)) (now (table .entry)) (now (table .exit)) (now (lefts .entry)) (now (lefts .exit)) r ⌝ }
 {
-    let r = records::record_at(certificate, 8 * at);
-    if r.b == 0 {
+    if header.b == 0 {
         let answer = unweighted(certificate, at, arities, starts, nodes, defined, rules);
         return Found {
             answer,
@@ -298,8 +299,8 @@ fn judge_component(
     weighted(
         certificate,
         at,
-        r.c as usize,
-        (r.b % 256) as u8,
+        header.c as usize,
+        (header.b % 256) as u8,
         first,
         before,
         table,
@@ -332,10 +333,11 @@ pub fn judge_components(
     let mut first = 0;
     let mut i = 0;
     while i < components {
-        let r = records::record_at(certificate, 8 * at);
+        let header = records::record_at(certificate, 8 * at);
         let found = judge_component(
             certificate,
             at,
+            header,
             first,
             before,
             &mut table,
@@ -354,7 +356,7 @@ pub fn judge_components(
             Answer::Passed(next) => {
                 before = found.weights;
                 at = next;
-                first = first + r.c as usize;
+                first = first + header.c as usize;
             }
         }
         i = i + 1;

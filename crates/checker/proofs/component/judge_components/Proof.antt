@@ -48,13 +48,17 @@ file-small s = s .pre .file .short
 
 requires : tie.Need-judge-component-requires Inv-loop μ-loop
 requires c κs =
-    let turn = c .before .before .before in
+    let read = c .before .before in
+    let turn = read .before in
     let l = turn .before in
     let a = start l .pre in
-    asked a (l .loop .inv .2 a) (turn .loop-test .taken) (l .loop .inv .1)
+    asked a (l .loop .inv .2 a) (turn .loop-test .taken) (read .record-at .ensures) (l .loop .inv .1)
+
+abbrev read-of : tie.After-judge-component Inv-loop μ-loop → tie.After-record-at Inv-loop μ-loop
+read-of c = c .before .before .before
 
 abbrev turn-of : tie.After-judge-component Inv-loop μ-loop → tie.In-loop Inv-loop μ-loop
-turn-of c = c .before .before .before .before
+turn-of c = read-of c .before
 
 returns : tie.Need-returns Inv-loop μ-loop
 returns c =
@@ -62,7 +66,7 @@ returns c =
     let turn = turn-of called in
     let l = turn .before .loop in
     let number : (a : Asked (start (turn .before))) → number-of (c .before .answer .given .0 .0) ≡ components-refusal (a .kept .system) (plain (a .kept .system)) (a .all) =
-    λ a. refuses a (l .inv .2 a) (turn .loop-test .taken) (l .inv .1) (called .judge-component .ensures) _ (c .before .answer .given .1) in
+    λ a. refuses a (l .inv .2 a) (turn .loop-test .taken) (read-of called .record-at .ensures) (l .inv .1) (called .judge-component .ensures) _ (c .before .answer .given .1) in
     record { judged = number; numbers = λ a accepted. absurd (omega (arith, number-some (c .before .answer .given .0 .0), number a, accepted)) }
 
 -- after a component that passed
@@ -77,8 +81,8 @@ again c =
       omega (arith, turn .loop-test .taken),
       called .judge-component .ensures .unmarked,
       λ a.
-          goes-on a (l .inv .2 a) (turn .loop-test .taken) (l .inv .1) (called .judge-component .ensures) _ (c .before .before .answer2 .given .1)
-          (pairs-read (there a (l .inv .2 a) (turn .loop-test .taken) .stands) (called .before .before .before .record-at .ensures)),
+          goes-on a (l .inv .2 a) (turn .loop-test .taken) (read-of called .record-at .ensures) (l .inv .1) (called .judge-component .ensures) _ (c .before .before .answer2 .given .1)
+          (pairs-read (there a (l .inv .2 a) (turn .loop-test .taken) .stands) (read-of called .record-at .ensures)),
     )
 
 pub judge-components-spec : {M : Type 1} → statement M
@@ -101,7 +105,7 @@ judge-components-spec =
     let l = turn .before .loop in
     let a = start (turn .before) .pre in
     let h = turn .loop-test .taken in
-    let pairs = pairs-read (there a (l .inv .2 a) h .stands) (called .before .before .before .record-at .ensures) in
+    let pairs = pairs-read (there a (l .inv .2 a) h .stands) (read-of called .record-at .ensures) in
     record { fits = omega (arith, room a (l .inv .2 a) h) })
     (λ c. let turn = turn-of (called-of c) in record { fits = omega (arith, turn .loop-test .taken, start (turn .before) .fits .components .fits) })
     (λ c. omega (arith, turn-of (called-of c) .loop-test .taken))
