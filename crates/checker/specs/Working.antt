@@ -251,13 +251,6 @@ pub record Cleared (kind : ℕ) (before after : List ℕ) : Type 0 where
   pub empty : Cells-are (own-base kind) after []
   pub others : Others-stay kind before after
 
--- two records of one kind with the same numbers
-pub record Same-record (x y : Record) : Type 0 where
-  pub kinds : x .kind ≡ y .kind
-  pub firsts : x .a ≡ y .a
-  pub seconds : x .b ≡ y .b
-  pub thirds : x .c ≡ y .c
-
 -- the W records at `before` and those at `from`, which end before record `after`, say the same
 pub record Weights-agree (certificate : List ℕ) (before from after : ℕ) : Type 0 where
   pub earlier : 0 < before

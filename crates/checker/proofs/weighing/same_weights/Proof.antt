@@ -1,17 +1,16 @@
 -- `checker::weighing::same_weights` meets its contract. The loop's invariant, for any weights that stand at the two places: if those
 -- that are left of them are the same, so are all.
 use mathlib.Core.Path.{_≡_, refl, sym, ap, _∙_}
-use mathlib.Core.Bool.{Bool, true, false, not}
 use mathlib.Core.List.{List, _∷_}
 use Prim.Native.Nat.{ℕ, _+_, _*_, _/_, _-_, _≤_, _<_}
 use native.Mathlib.Omega.{arith}
 use borrow.Author.Needs.{needs}
 use lib.ListN.{length}
 use Rattle.records.specs.declared.Record.{Record}
-use Rattle.records.specs.Records.{a-record, record-at}
+use Rattle.records.specs.Records.{a-record, record-at, fields}
 use Rattle.records.specs.Order.{W-weight}
 use Rattle.polynomials.specs.Polynomials.{Weight}
-use Rattle.checker.specs.Working.{Weights-at, Same-weights, Same-record}
+use Rattle.checker.specs.Working.{Weights-at, Same-weights}
 use Rattle.checker.proofs.Runs.{Goes-on, none-at-end, none-at-other, goes-on}
 use Rattle.checker.proofs.weighing.same_weights.Statement.{statement}
 use Rattle.checker.proofs.weighing.same_weights.Tie as tie
@@ -37,26 +36,25 @@ at-first : {cert : List ℕ} {before from : ℕ} {vs ws : List Weight} → Weigh
     Alike cert from before from vs ws
 at-first {vs = vs} {ws = ws} a b = record { vs-left = vs; ws-left = ws; vs-stand = a; ws-stand = b; passed = refl; alike = λ e. e }
 
--- records with the same numbers are those of one weight
-same-weight : {kind : ℕ} (v w : Weight) → Same-record (a-record kind (v .symbol) (v .place) (v .value)) (a-record kind (w .symbol) (w .place) (w .value)) → v ≡ w
-same-weight v w e = λ i. record { symbol = e .firsts i; place = e .seconds i; value = e .thirds i }
+-- equal records are those of one weight
+same-weight : {kind : ℕ} (v w : Weight) → a-record kind (v .symbol) (v .place) (v .value) ≡ a-record kind (w .symbol) (w .place) (w .value) → v ≡ w
+same-weight v w e = λ i. record { symbol = e i .a; place = e i .b; value = e i .c }
 
-module _
-    {cert : List ℕ} {from i at : ℕ} {vs ws : List Weight} (s : Alike cert from i at vs ws) (h : i < length cert / 8) (k : at < length cert / 8) {x y : Record}
-    (x-read : x ≡ record-at cert (8 * i)) (y-read : y ≡ record-at cert (8 * at)) where
+module _ {cert : List ℕ} {from i at : ℕ} {vs ws : List Weight} (s : Alike cert from i at vs ws) (h : i < length cert / 8) (k : at < length cert / 8) where
   -- both end here
-  both-end : (x .kind ≡ W-weight → ⊥) → (y .kind ≡ W-weight → ⊥) → Same-weights vs ws from at
-  both-end x-other y-other =
+  both-end : {x y : Record} → x ≡ record-at cert (8 * i) → y ≡ record-at cert (8 * at) → (x .kind ≡ W-weight → ⊥) → (y .kind ≡ W-weight → ⊥) → Same-weights vs ws from at
+  both-end x-read y-read x-other y-other =
       let x-none = none-at-other (s .vs-stand) h x-read x-other in
       let y-none = none-at-other (s .ws-stand) k y-read y-other in
       record { same = s .alike (x-none ∙ sym y-none); passed = omega (arith, s .passed, ap length y-none) }
 
-  both-go-on : x .kind ≡ W-weight → Same-record x y → Alike cert from (i + 1) (at + 1) vs ws
-  both-go-on is same = go (goes-on (s .vs-stand) h x-read is) (goes-on (s .ws-stand) k y-read (sym (same .kinds) ∙ is))
+  -- one record stands at both places
+  both-go-on : {r : Record} → r ≡ record-at cert (8 * i) → r ≡ record-at cert (8 * at) → r .kind ≡ W-weight → Alike cert from (i + 1) (at + 1) vs ws
+  both-go-on {r} x-read y-read is = go (goes-on (s .vs-stand) h x-read is) (goes-on (s .ws-stand) k y-read is)
     where
-      go : Goes-on cert i W-weight x (s .vs-left) → Goes-on cert at W-weight y (s .ws-left) → Alike cert from (i + 1) (at + 1) vs ws
+      go : Goes-on cert i W-weight r (s .vs-left) → Goes-on cert at W-weight r (s .ws-left) → Alike cert from (i + 1) (at + 1) vs ws
       go v w =
-          let first : v .first ≡ w .first = same-weight (v .first) (w .first) (rw (v .is, w .is) at same) in
+          let first : v .first ≡ w .first = same-weight (v .first) (w .first) (sym (v .is) ∙ w .is) in
           record {
             vs-left = v .others;
             ws-left = w .others;
@@ -74,9 +72,22 @@ file-ends s h past x-read x-other =
     let y-none = none-at-end (s .ws-stand) past in
     record { same = s .alike (x-none ∙ sym y-none); passed = omega (arith, s .passed, ap length y-none) }
 
-not-false : (b : Bool) → not b ≡ false → b ≡ true
-not-false true e = refl
-not-false false e = sym e
+-- two equal words, the first one's fields taken: one record stands at both places
+module _ (c : tie.After-struct-known3 Inv-loop μ-loop) where
+  abbrev equal : tie.Else2 Inv-loop μ-loop
+  equal = c .before .before
+
+  abbrev x-word : tie.After-word-at Inv-loop μ-loop
+  x-word = equal .before .before
+
+  abbrev r : Record
+  r = c .before .fields3 .result
+
+  here : r ≡ record-at (x-word .before .before .before .before .before .args .certificate .now) (8 * x-word .before .before .loop .i)
+  here = c .before .fields3 .ensures ∙ x-word .word-at .ensures .record-is
+
+  there : r ≡ record-at (x-word .before .before .before .before .before .args .certificate .now) (8 * x-word .before .before .loop .at)
+  there = c .before .fields3 .ensures ∙ ap fields (equal .if2 .left) ∙ equal .before .word-at2 .ensures .record-is
 
 pub same-weights-spec : {M : Type 1} → statement M
 same-weights-spec =
@@ -90,33 +101,42 @@ same-weights-spec =
     (λ c κs. omega arith)
     (λ c. omega arith)
     (λ c κs. omega arith)
-    (λ c z.
-    let y = c .before .before .before .before in
-    let x = y .before in
-    let l = x .before .before .loop in
-    let in-file = x .before .loop-test .taken in
-    record {
-      earlier = omega (arith, x .before .before .before .if1 .left);
-      agree = λ vs ws a b.
-          both-end (l .inv .1 vs ws a b) (omega (arith, l .inv .0)) in-file (x .record-at .ensures) (y .record-at2 .ensures)
-          (c .before .before .if2 .taken) (c .if3 .taken);
-    })
+    (λ c κs. search needs)
     (λ c z. absurd (omega arith))
     (λ c κs. search needs)
     (λ c z. absurd (omega arith))
+    (λ c z.
+    let second = c .before .before in
+    let tested = second .before in
+    let first = tested .before .before in
+    let y = first .before .before in
+    let x = y .before in
+    let l = x .before .before .loop in
+    record {
+      earlier = omega (arith, x .before .before .before .if1 .left);
+      agree = λ vs ws a b.
+          both-end (l .inv .1 vs ws a b) (omega (arith, l .inv .0)) (x .before .loop-test .taken) (first .fields .ensures ∙ x .word-at .ensures .record-is)
+          (second .fields2 .ensures ∙ y .word-at2 .ensures .record-is) (tested .if3 .left) (c .if4 .left);
+    })
+    (λ c κs. search needs)
+    (λ c z.
+    let x = x-word (c .before) in
+    let l = x .before .before .loop in
+    record {
+      earlier = omega (arith, x .before .before .before .if1 .left);
+      agree = λ vs ws a b.
+          both-end (l .inv .1 vs ws a b) (omega (arith, l .inv .0)) (x .before .loop-test .taken) (here (c .before)) (there (c .before)) (c .if5 .taken)
+          (c .if5 .taken);
+    })
     (λ c. omega arith)
     (λ c. omega arith)
     (λ c. omega arith)
     (λ c.
-    let differ = c .before .before in
-    let y = differ .before .before in
-    let x = y .before in
-    let l = x .before .before .loop in
-    let in-file = x .before .loop-test .taken in (
+    let x = x-word (c .before) in
+    let l = x .before .before .loop in (
       omega (arith, l .inv .0),
       λ vs ws a b.
-          both-go-on (l .inv .1 vs ws a b) (omega (arith, l .inv .0)) in-file (x .record-at .ensures) (y .record-at2 .ensures)
-          (differ .if2 .left) (c .before .same-record .ensures (not-false _ (c .if4 .left))),
+          both-go-on (l .inv .1 vs ws a b) (omega (arith, l .inv .0)) (x .before .loop-test .taken) (here (c .before)) (there (c .before)) (c .if5 .left),
     ))
     (λ c. omega arith)
     (λ c κs. omega arith)
@@ -126,7 +146,7 @@ same-weights-spec =
     let l = past .before .loop in
     record {
       earlier = omega (arith, past .before .before .if1 .left);
-      agree = λ vs ws a b. file-ends (l .inv .1 vs ws a b) (x .before .if5 .taken) (past .loop-test .left) (x .record-at3 .ensures) (c .if6 .taken);
+      agree = λ vs ws a b. file-ends (l .inv .1 vs ws a b) (x .before .if6 .taken) (past .loop-test .left) (x .record-at .ensures) (c .if7 .taken);
     })
     (λ c z. absurd (omega arith))
     (λ c z. absurd (omega arith)))
