@@ -2,6 +2,7 @@
 
 pub mod checker;
 pub mod encode;
+pub mod examples;
 pub mod files;
 pub mod generate;
 pub mod graph;

@@ -11,6 +11,7 @@ use std::process::ExitCode;
 use std::time::{Duration, Instant};
 use workbench::checker::{is_defined, judge_pack, pairs, PACK_LIMIT};
 use workbench::encode::{certificate_bytes, pack_bytes};
+use workbench::examples::{checks, default_folder};
 use workbench::generate::lexicographic::of_levels;
 use workbench::generate::packs::{dense, guided, Base, Size};
 use workbench::generate::weightings::split;
@@ -41,8 +42,9 @@ struct File {
     question: [u32; 4],
 }
 
-/// What is measured: asks one implementation everything, answers the greatest number given.
-type Job<'a> = &'a dyn Fn(&dyn Implementation) -> u32;
+/// What is measured: asks one implementation everything, and tells each number that it answers.
+type Job<'a> = &'a dyn Fn(&dyn Implementation, Tell);
+type Tell<'a> = &'a mut dyn FnMut(u32);
 
 struct Bench {
     implementations: Vec<Copies>,
@@ -66,17 +68,18 @@ fn bench(arguments: Arguments) -> Result<(), Failure> {
     let what = if before { "the library in times of the one before" } else { "each in times of the tuned one" };
     say(format_args!("time of {what}; at the end the greatest number each answered\n"));
     bench.header("check");
-    for workload in workloads() {
-        bench.ratios(&workload.name, &|one| check_all(one, &workload));
+    let (workloads, examples) = (workloads(), [examples()?]);
+    for workload in workloads.iter().chain(&examples) {
+        bench.ratios(&workload.name, &|one, tell| check_all(one, workload, tell));
     }
     bench.weightings();
     bench.header("\nlist");
-    for workload in workloads().iter().take(4) {
-        bench.ratios(&workload.name, &|one| list_all(one, workload));
+    for workload in workloads.iter().take(4).chain(&examples) {
+        bench.ratios(&workload.name, &|one, tell| list_all(one, workload, tell));
     }
     bench.header("\narc question");
-    for workload in workloads().iter().take(7) {
-        bench.ratios(&workload.name, &|one| ask_all(one, workload));
+    for workload in workloads.iter().take(7).chain(&examples) {
+        bench.ratios(&workload.name, &|one, tell| ask_all(one, workload, tell));
     }
     let readers = Bench { implementations: readers(before)?, rounds, before };
     // An older library that reads no texts is no measure, nor is the plain reader for itself.
@@ -113,13 +116,22 @@ fn workload(name: &str, bases: impl IntoIterator<Item = Base>) -> Workload {
     Workload { name: name.to_string(), files: bases.into_iter().map(file).collect() }
 }
 
-/// The question is about the first and the last pair.
+/// The packs and certificates of the shipped examples.
+fn examples() -> Result<Workload, Failure> {
+    let files = checks(&default_folder())?.into_iter().map(|check| asked(check.pack, check.certificate)).collect();
+    Ok(Workload { name: "the examples".to_string(), files })
+}
+
 fn file(base: Base) -> File {
-    let pack = pack_bytes(&base.pack);
+    asked(pack_bytes(&base.pack), certificate_bytes(&base.components))
+}
+
+/// The question is about the first and the last pair.
+fn asked(pack: Vec<u8>, certificate: Vec<u8>) -> File {
     let all = judge_pack(&pack).map(|pack| pairs(&pack)).unwrap_or_default();
     let ends = (all.first().copied().unwrap_or_default(), all.last().copied().unwrap_or_default());
     let question = [ends.0 .0, ends.0 .1, ends.1 .0, ends.1 .1].map(u32::from);
-    File { pack, certificate: certificate_bytes(&base.components), question }
+    File { pack, certificate, question }
 }
 
 fn seeded(count: u64, make: impl Fn(&mut Random) -> Base) -> Vec<Base> {
@@ -212,26 +224,30 @@ fn worst_texts() -> Vec<Texts> {
 
 // ---------------------------------------------------------------- jobs
 
-fn check_all(one: &dyn Implementation, workload: &Workload) -> u32 {
-    let answers = workload.files.iter().map(|file| one.check(black_box(&file.pack), black_box(&file.certificate)));
-    answers.fold(0, u32::max)
+fn check_all(one: &dyn Implementation, workload: &Workload, tell: Tell) {
+    for file in &workload.files {
+        tell(one.check(black_box(&file.pack), black_box(&file.certificate)));
+    }
 }
 
-fn list_all(one: &dyn Implementation, workload: &Workload) -> u32 {
+fn list_all(one: &dyn Implementation, workload: &Workload, tell: Tell) {
     let mut list = [0; 2_048 * 8];
-    let answers = workload.files.iter().map(|file| one.list(black_box(&file.pack), &mut list).0);
-    answers.fold(0, u32::max)
+    for file in &workload.files {
+        tell(one.list(black_box(&file.pack), &mut list).0);
+    }
 }
 
-fn ask_all(one: &dyn Implementation, workload: &Workload) -> u32 {
-    let answers = workload.files.iter().map(|file| one.arc(black_box(&file.pack), black_box(file.question)).0);
-    answers.fold(0, u32::max)
+fn ask_all(one: &dyn Implementation, workload: &Workload, tell: Tell) {
+    for file in &workload.files {
+        tell(one.arc(black_box(&file.pack), black_box(file.question)).0);
+    }
 }
 
-fn read_all(one: &dyn Implementation, texts: &[Vec<u8>]) -> u32 {
+fn read_all(one: &dyn Implementation, texts: &[Vec<u8>], tell: Tell) {
     let mut pack = [0; PACK_LIMIT];
-    let answers = texts.iter().map(|text| one.read_text(black_box(text), &mut pack).map_or(0, |answer| answer.0));
-    answers.fold(0, u32::max)
+    for text in texts {
+        tell(one.read_text(black_box(text), &mut pack).map_or(0, |answer| answer.0));
+    }
 }
 
 // ---------------------------------------------------------------- measuring
@@ -262,11 +278,11 @@ impl Bench {
         times
     }
 
-    /// Does the one before give the answer of the library?
+    /// Does the one before give each answer of the library?
     fn agree(&self, job: Job) -> bool {
-        let mut answers = self.implementations.iter().flatten().map(|one| job(one.as_ref()));
+        let mut answers = self.implementations.iter().flatten().map(|one| answers_of(one.as_ref(), job));
         let first = answers.next();
-        answers.all(|answer| Some(answer) == first)
+        answers.all(|all| Some(all) == first)
     }
 
     /// Eight weightings in times of one, for the same pack, by the library.
@@ -277,7 +293,7 @@ impl Bench {
         };
         let time = |count: usize| {
             let workload = workload("weightings", [slow::weightings(count)]);
-            self.measure(&|one| check_all(one, &workload))[library]
+            self.measure(&|one, tell| check_all(one, &workload, tell))[library]
         };
         let ratio = time(8).div_duration_f64(time(1));
         say(format_args!("\nlibrary: eight weightings in times of one, for the same pack: {ratio:.2}"));
@@ -286,7 +302,7 @@ impl Bench {
     /// One line a text, in times of the plain reader; and the worst text in times of an ordinary one, by the library.
     fn texts(&self) {
         self.header("\nread text");
-        let row = |texts: &Texts| self.ratios(&texts.name, &|one| read_all(one, &texts.texts));
+        let row = |texts: &Texts| self.ratios(&texts.name, &|one, tell| read_all(one, &texts.texts, tell));
         let ordinary = ordinary_texts().each_ref().map(row);
         let worst: Vec<Vec<Duration>> = worst_texts().iter().map(row).collect();
         if let (false, Some(unit)) = (self.before, ordinary[1].last()) {
@@ -302,7 +318,7 @@ impl Bench {
         let mut above: Vec<Option<Duration>> = vec![None; self.implementations.len()];
         for size in sizes {
             let workload = workload(name, [make(*size)]);
-            let job: Job = &|one| check_all(one, &workload);
+            let job: Job = &|one, tell| check_all(one, &workload, tell);
             if self.before {
                 self.ratios(&size.to_string(), job);
                 continue;
@@ -322,7 +338,8 @@ impl Bench {
         // A hundredth more or less is what the one before is asked for.
         let places = if self.before { 3 } else { 2 };
         let numbers = numbers.iter().map(|n| n.map_or(format!("{:>9}", "-"), |n| format!("{n:>9.places$}")));
-        let greatest = |copies: &Copies| copies.iter().map(|one| job(one.as_ref())).fold(0, u32::max).to_string();
+        let all = |copies: &Copies| copies.iter().flat_map(|one| answers_of(one.as_ref(), job)).collect::<Vec<u32>>();
+        let greatest = |copies: &Copies| all(copies).into_iter().max().unwrap_or_default().to_string();
         let answers: Vec<String> = self.implementations.iter().map(greatest).collect();
         say(format_args!("{name:<34}{}  {}{mark}", numbers.collect::<String>(), answers.join(" ")));
     }
@@ -340,12 +357,21 @@ impl Bench {
     }
 }
 
+/// All numbers that it answers, in their order.
+fn answers_of(one: &dyn Implementation, job: Job) -> Vec<u32> {
+    let mut answers = Vec::new();
+    job(one, &mut |number| answers.push(number));
+    answers
+}
+
 /// Repeats until the clock is fine enough; answers the time of one.
 fn time_of(one: &dyn Implementation, job: Job) -> Duration {
     let start = Instant::now();
     let mut times = 0;
     while times == 0 || start.elapsed() < Duration::from_millis(1) {
-        black_box(job(one));
+        job(one, &mut |number| {
+            black_box(number);
+        });
         times += 1;
     }
     start.elapsed() / times

@@ -9,12 +9,11 @@ mod texts;
 use std::path::{Path, PathBuf};
 use std::process::ExitCode;
 use workbench::checker::PAIR_LIMIT;
+use workbench::examples::{self, default_folder, number, odd_line, table};
 use workbench::files::{read, read_text, write};
 use workbench::implementation::{all, Implementation};
 use workbench::report::{run, say, Arguments, Failure};
-use workbench::text::{
-    assemble_certificate, assemble_pack, digits, disassemble_certificate, disassemble_pack, mode_of, Mode,
-};
+use workbench::text::{assemble_certificate, assemble_pack, disassemble_certificate, disassemble_pack, mode_of, Mode};
 
 type Answer<T> = Result<T, Failure>;
 
@@ -22,8 +21,6 @@ const USAGE: &str = "check-examples [--write] [FOLDER]";
 const WRITE: &str = "--write";
 /// The texts that only loose mode assembles.
 const LOOSE_LIST: &str = "loose.txt";
-/// What the check says of packs and certificates.
-const CHECKS: &str = "expected.txt";
 /// No lent list is larger.
 const ROOM_LIMIT: u32 = 1 << 20;
 
@@ -54,11 +51,6 @@ fn check_examples(arguments: Arguments) -> Answer<()> {
     let files = format!("{files} files as their texts say, {solver_texts} solvers' texts");
     say(format_args!("{files}; {asked} answers of {} as expected", names.join(", ")));
     Ok(())
-}
-
-/// The folder `examples` beside this package.
-fn default_folder() -> PathBuf {
-    Path::new(env!("CARGO_MANIFEST_DIR")).join("../examples")
 }
 
 /// Every `.pack.txt` and `.cert.txt`; answers how many.
@@ -141,25 +133,6 @@ fn loose_texts(folder: &Path) -> Answer<Vec<String>> {
         .collect()
 }
 
-fn odd_line(name: &str, line: &[String]) -> Failure {
-    Failure::CouldNotRun(format!("{name}: {:?} is not understood", line.join(" ")))
-}
-
-/// The lines of a table, as words.
-fn table(folder: &Path, name: &str) -> Answer<Vec<Vec<String>>> {
-    let text = read_text(folder.join(name))?;
-    let lines = text.lines().filter(|line| !line.starts_with(';') && !line.trim().is_empty());
-    let lines: Vec<Vec<String>> = lines.map(|line| line.split_whitespace().map(str::to_string).collect()).collect();
-    if lines.is_empty() {
-        return Err(Failure::CouldNotRun(format!("{name}: no line to hold anything to")));
-    }
-    Ok(lines)
-}
-
-fn number(word: &str) -> Answer<u32> {
-    digits(word).ok_or_else(|| Failure::CouldNotRun(format!("{word:?} is no number in a table")))
-}
-
 fn room(word: &str) -> Answer<usize> {
     match number(word)? {
         room if room <= ROOM_LIMIT => Ok(room as usize),
@@ -167,17 +140,13 @@ fn room(word: &str) -> Answer<usize> {
     }
 }
 
-/// `pack certificate answer`
 fn checks(folder: &Path, implementation: &dyn Implementation) -> Answer<usize> {
-    let lines = table(folder, CHECKS)?;
-    for line in &lines {
-        let [pack, certificate, answer] = &line[..] else {
-            return Err(odd_line(CHECKS, line));
-        };
-        let got = implementation.check(&read(folder.join(pack))?, &read(folder.join(certificate))?);
-        expect(implementation, line, number(answer)?, got)?;
+    let checks = examples::checks(folder)?;
+    for check in &checks {
+        let got = implementation.check(&check.pack, &check.certificate);
+        expect(implementation, &check.line, check.answer, got)?;
     }
-    Ok(lines.len())
+    Ok(checks.len())
 }
 
 /// `pack room answer count`

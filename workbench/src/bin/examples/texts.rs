@@ -1,9 +1,10 @@
 //! The examples' solvers' texts: `NAME.trs` for each good pack `NAME.pack`, and the small ones of `expected-texts.txt`.
 
-use crate::{expect, names, number, odd_line, room, table, Answer, CHECKS};
+use crate::{expect, names, room, Answer};
 use std::path::Path;
 use workbench::checker::{judge_pack, PACK_LIMIT};
 use workbench::encode::pack_bytes;
+use workbench::examples::{self, number, odd_line, table};
 use workbench::files::{read, read_text, write};
 use workbench::implementation::{Checker, Implementation};
 use workbench::renumber::{certificate, renumbered, Renumbered};
@@ -146,19 +147,17 @@ fn nothing_left_out(folder: &Path, lines: &[Vec<String>]) -> Answer<()> {
 fn checks(folder: &Path, implementation: &dyn Implementation) -> Answer<usize> {
     let good = good_packs(folder)?;
     let mut count = 0;
-    for line in table(folder, CHECKS)? {
-        let [pack, file, answer] = &line[..] else {
-            return Err(odd_line(CHECKS, &line));
-        };
-        let Some(stem) = pack.strip_suffix(".pack").filter(|stem| good.iter().any(|other| other == stem)) else {
+    for check in examples::checks(folder)? {
+        let Some(stem) = check.line[0].strip_suffix(".pack").filter(|stem| good.iter().any(|other| other == stem))
+        else {
             continue;
         };
         let renumbered = renumbered_pack(folder, stem)?;
-        let Some(file) = certificate(&read(folder.join(file))?, &renumbered.symbols) else {
+        let Some(file) = certificate(&check.certificate, &renumbered.symbols) else {
             continue;
         };
-        let line = [vec![format!("{stem}.trs")], line.clone()].concat();
-        expect(implementation, &line, number(answer)?, implementation.check(&pack_bytes(&renumbered.pack), &file))?;
+        let line = [vec![format!("{stem}.trs")], check.line.clone()].concat();
+        expect(implementation, &line, check.answer, implementation.check(&pack_bytes(&renumbered.pack), &file))?;
         count += 1;
     }
     Ok(count)
