@@ -1,8 +1,8 @@
 // What the programs print. Each function answers whether all of it was written.
 pub mod words;
 
-ghost use Prim.Native.Nat.{_<_};
 use libc::STDOUT_FILENO;
+use records::Record;
 use records::Refusal;
 
 // Says so where not all could be written.
@@ -29,48 +29,28 @@ pub fn refused(x: Refusal) -> bool {
     number(records::number(x) as u64)
 }
 
-fn wide(x: u8) -> u64
-    ensures { λ r. ⌜ r < 256 ⌝ }
-{
-    x as u64
-}
-
-// The number at bytes i and i + 1 of the list, low byte first; 0 past its end.
-fn two(list: &[u8], i: usize) -> u64 {
-    if list.len() < 2 {
-        return 0;
-    }
-    if list.len() - 2 < i {
-        return 0;
-    }
-    wide(list[i]) + 256 * wide(list[i + 1])
-}
-
-// One pair: rule, space, place.
-fn pair(list: &[u8], at: usize) -> bool {
-    if 65536 < at {
-        return false;
-    }
-    if !io::print_decimal(STDOUT_FILENO, two(list, at + 2)) {
+// One pair, of its record in a listing: rule, space, place.
+fn pair(r: Record) -> bool {
+    if !io::print_decimal(STDOUT_FILENO, r.a as u64) {
         return false;
     }
     if !io::write_all(STDOUT_FILENO, b" ") {
         return false;
     }
-    if !io::print_decimal(STDOUT_FILENO, two(list, at + 4)) {
+    if !io::print_decimal(STDOUT_FILENO, r.b as u64) {
         return false;
     }
     io::write_all(STDOUT_FILENO, b"\n")
 }
 
-// A line a pair, from the first n records of a listing.
+// A line a pair, from the first n records of a listing, which must have as many.
 pub fn pairs(list: &[u8], n: usize) -> bool {
     let mut i = 0;
     while i < n {
-        if 8192 <= i {
+        if list.len() / 8 <= i {
             return false;
         }
-        if !pair(list, 8 * i) {
+        if !pair(records::record_at(list, 8 * i)) {
             return false;
         }
         i = i + 1;

@@ -1,4 +1,4 @@
--- `printing::pairs` meets its contract: it counts up to n.
+-- `printing::pairs` meets its contract: it counts up to n, and each record that it takes is there.
 use Prim.Native.Nat.{_-_, _≤_}
 use native.Mathlib.Omega.{arith}
 use borrow.Author.Needs.{needs}
@@ -20,6 +20,7 @@ pairs-spec =
     (λ c. omega arith)
     (λ c. search needs)
     (λ c. omega arith)
+    (λ c κs. omega arith)
     (λ c κs. search needs)
     (λ c. search needs)
     (λ c. omega arith)
