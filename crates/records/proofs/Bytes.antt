@@ -50,6 +50,10 @@ byte-at [] i h = omega arith
 byte-at (x ∷ bs) zero h = first-byte x bs h .0
 byte-at (x ∷ bs) (suc i) h = byte-at bs i (first-byte x bs h .1)
 
+pub two-small : (bs : List ℕ) (i : ℕ) → all-bytes bs ≡ true → two bs i < 65536
+unfolding two
+two-small bs i h = omega (arith, byte-at bs i h, byte-at bs (i + 1) h)
+
 -- two bytes and the number that they write
 module _ (x y : ℕ) (small-x : x < 256) (small-y : y < 256) where
   low-byte : (x + 256 * y) % 256 ≡ x
@@ -112,14 +116,14 @@ unfolding all-records
 length-of-records bs = length-of-first-records (length bs / 8) bs
 
 record-in-range : (bs : List ℕ) (i : ℕ) → all-bytes bs ≡ true → In-range (record-at bs i)
-unfolding record-at two
+unfolding record-at
 record-in-range bs i h =
     record {
       kind-small = byte-at bs i h;
       one-small = byte-at bs (i + 1) h;
-      a-small = omega (arith, byte-at bs (i + 2) h, byte-at bs (i + 2 + 1) h);
-      b-small = omega (arith, byte-at bs (i + 4) h, byte-at bs (i + 4 + 1) h);
-      c-small = omega (arith, byte-at bs (i + 6) h, byte-at bs (i + 6 + 1) h);
+      a-small = two-small bs (i + 2) h;
+      b-small = two-small bs (i + 4) h;
+      c-small = two-small bs (i + 6) h;
     }
 
 first-records-in-range : (n : ℕ) (bs : List ℕ) → all-bytes bs ≡ true → All-in-range (first-records n bs)

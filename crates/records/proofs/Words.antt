@@ -8,7 +8,7 @@ use native.Mathlib.Nat.{add-zero, le-of-suc-le-suc, pow-zero, pow-succ', div-one
 use native.Mathlib.Omega.{arith}
 use lib.ListN.{getD}
 use Rattle.records.specs.Records.{two, record-at, number-at, word-at, fields, Word-at, low-two, record-bytes, all-bytes}
-use Rattle.records.proofs.Bytes.{byte-at, two-of-low-two}
+use Rattle.records.proofs.Bytes.{byte-at, two-small, two-of-low-two}
 
 -- FOUR NUMBERS of two bytes each, and the number that they write; x and y are the two bytes of the first
 module _ (x y t u v : ℕ) (x-small : x < 256) (y-small : y < 256) (t-small : t < 65536) (u-small : u < 65536) (v-small : v < 65536) where
@@ -68,18 +68,14 @@ module _ (bs : List ℕ) where
         let further : i + 1 + k ≡ i + suc k = omega arith in
         rw (pow-succ' 256 k, ← div-div-eq-div-mul, rest) (nth-byte n (i + 1) k (le-of-suc-le-suc h) ∙ ap (λ (j : ℕ). getD bs j 0) further)
 
-    two-small : (i : ℕ) → two bs i < 65536
-    unfolding two
-    two-small i = omega (arith, byte-at bs i all, byte-at bs (i + 1) all)
-
     pub word-small : (i : ℕ) → word-at bs i < 2 ^ 64
-    word-small i = omega (arith, word-by-twos i, two-small i, two-small (i + 2), two-small (i + 4), two-small (i + 6))
+    word-small i = omega (arith, word-by-twos i, two-small bs i all, two-small bs (i + 2) all, two-small bs (i + 4) all, two-small bs (i + 6) all)
 
     pub fields-of-word : (i : ℕ) → fields (word-at bs i) ≡ record-at bs i
     unfolding record-at two
     fields-of-word i =
         rw (word-by-twos i)
-        (fields-of-whole _ _ _ _ _ (byte-at bs i all) (byte-at bs (i + 1) all) (two-small (i + 2)) (two-small (i + 4)) (two-small (i + 6)))
+        (fields-of-whole _ _ _ _ _ (byte-at bs i all) (byte-at bs (i + 1) all) (two-small bs (i + 2) all) (two-small bs (i + 4) all) (two-small bs (i + 6) all))
 
     pub is-word : (i : ℕ) {w : ℕ} → w ≡ word-at bs i → Word-at bs i w
     is-word i e = record { number = e; record-is = ap fields e ∙ fields-of-word i }
@@ -92,11 +88,6 @@ three-left l m n s e f g = omega arith
 
 low-two-left : (v : ℕ) → v % 65536 + 65536 * (v / 65536) ≡ v
 low-two-left v = omega arith
-
-module _ (k o al ah bl bh cl ch : ℕ) where
-  eight-by-twos : k + 256 * (o + 256 * (al + 256 * (ah + 256 * (bl + 256 * (bh + 256 * (cl + 256 * (ch + 256 * 0)))))))
-      ≡ (k + 256 * o) + 65536 * (al + 256 * ah) + 4294967296 * (bl + 256 * bh) + 281474976710656 * (cl + 256 * ch)
-  eight-by-twos = omega arith
 
 module _ (w : ℕ) (h : w < 2 ^ 64) where
   first-two : w % 256 + 256 * (w / 256 % 256) ≡ w % 65536
@@ -115,7 +106,7 @@ module _ (w : ℕ) (h : w < 2 ^ 64) where
   by-fields = rw c-last (three-left _ _ _ _ (low-two-left w) (rw (← b-left) at (low-two-left (w / 65536))) (rw (← c-left) at (low-two-left (w / 4294967296))))
 
   pub word-of-fields : word-at (record-bytes (fields w)) 0 ≡ w
-  unfolding number-at fields record-bytes low-two
+  unfolding fields record-bytes low-two two
   word-of-fields =
-      eight-by-twos _ _ _ _ _ _ _ _
+      word-by-twos (record-bytes (fields w)) 0
       ∙ rw (first-two, two-of-low-two (w / 65536 % 65536) (omega arith), two-of-low-two (w / 4294967296 % 65536) (omega arith), two-of-low-two (w / 281474976710656 % 65536) (omega arith)) by-fields
