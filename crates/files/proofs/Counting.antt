@@ -7,13 +7,10 @@ use lib.Seq.{length-take-le}
 use native.Mathlib.Omega.{arith}
 use borrow.Rule.Slice.PartMut.{putMid, postOf}
 use Rattle.io.specs.Counts.{Counts}
+use Rattle.names.proofs.Counting.{within}
 use Rattle.files.specs.declared.FileRead.{FileRead}
 use Rattle.files.specs.declared.FileRead.the-variants.{Bytes, Failed}
 use Rattle.files.specs.Read.{bytes-read}
-
--- no more bytes than the buffer holds
-pub within : (n : ℕ) (bs : List ℕ) → n ≤ length bs → Counts n bs
-within n bs h = (h, sym (length-take-le n bs h))
 
 -- the same once other bytes stand in it
 pub within-still : (n : ℕ) (xs bs : List ℕ) → n ≤ length xs → length bs ≡ length xs → Counts n bs

@@ -3,15 +3,11 @@ mod write;
 
 pub use write::write_argument;
 ghost use mathlib.Core.Path.{_≡_};
-ghost use Prim.Native.Nat.{_≤_, min};
+ghost use Prim.Native.Nat.{min};
 ghost use lib.ListN.{length};
 ghost use Rattle.io.specs.Counts.{Counts};
 ghost use Rattle.files.specs.Read.{bytes-read};
-use libc::STDERR_FILENO;
 use libc::STDIN_FILENO;
-
-// How much of a name is shown that is too long.
-const NAME_SHOWN: isize = 64;
 
 // How many bytes stand at the start of the buffer, or that not all could be read.
 pub enum FileRead {
@@ -25,20 +21,13 @@ pub fn held(r: FileRead, buf: &[u8]) -> usize
     ensures fits { λ n. ⌜ Counts n (now (buf .entry)) ⌝ }
 {
     match r {
-        FileRead::Bytes(n) => least(n, buf.len()),
+        FileRead::Bytes(n) => names::least(n, buf.len()),
         FileRead::Failed => 0,
     }
 }
 
-fn least(a: usize, b: usize) -> usize
-    ensures { λ r. ⌜ r ≡ min a b ⌝ }
-    ensures { λ r. ⌜ r ≤ b ⌝ }
-{
-    if a < b { a } else { b }
-}
-
 // One read to the start of part; 0 bytes are the end of the input.
-fn read_once(fd: i32, part: &mut [u8]) -> FileRead
+pub fn read_once(fd: i32, part: &mut [u8]) -> FileRead
     ensures { λ r. ⌜ Counts (bytes-read r) (now (part .exit)) ⌝ }
 {
     let got = libc::read(fd, part);
@@ -77,27 +66,20 @@ pub fn read_input(buf: &mut [u8]) -> FileRead
 }
 
 // Reads the file at path, at most as much as buf holds; says so, by name, where it cannot.
-fn read_path(path: &[u8], buf: &mut [u8]) -> FileRead
+pub fn read_path(path: &[u8], buf: &mut [u8]) -> FileRead
     ensures { λ r. ⌜ Counts (bytes-read r) (now (buf .exit)) ⌝ }
 {
     let fd = os::open_read(path);
     if fd < 0 {
-        os::fail(path);
+        names::fail(path);
         return FileRead::Failed;
     }
     let r = read_open(fd, buf);
     if let FileRead::Failed = r {
-        os::fail(path);
+        names::fail(path);
     }
     libc::close(fd);
     r
-}
-
-// Says why a name cannot be taken, by its start.
-fn cut_name(name: &[u8]) {
-    let shown = io::count(NAME_SHOWN, name);
-    io::write_all(STDERR_FILENO, &name[..shown]);
-    os::fail(b"..");
 }
 
 // Whether argument i is `-`, which stands for standard input.
@@ -125,7 +107,7 @@ pub fn read_argument(i: usize, buf: &mut [u8]) -> FileRead
     let mut path = io::buffer();
     let n = os::arg(i, &mut path);
     if os::errno() != 0 {
-        cut_name(&path);
+        names::fail(&path);
         return FileRead::Failed;
     }
     read_path(&path[..n], buf)

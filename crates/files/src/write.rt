@@ -1,40 +1,21 @@
 // Files written whole or not at all: to a new file beside the old one, which takes its name once it is closed.
-use crate::cut_name;
-use crate::least;
 use libc::PATH_MAX;
 use libc::STDERR_FILENO;
 ghost use mathlib.Core.Path.{_≡_};
-ghost use Prim.Native.Nat.{_+_, _-_, _≤_, min};
+ghost use Prim.Native.Nat.{_≤_};
 ghost use lib.ListN.{length};
-ghost use lib.Seq.{paste};
 ghost use Rattle.io.specs.Counts.{Counts};
 ghost use Rattle.libc.specs.Io.{Ended};
 
 // What fpathconf is asked; the C library says 1 of regular files and disks' nodes, and of nothing else.
 const PC_ASYNC_IO: i32 = 10;
 
-// Puts src into dst from `at` on, as much as finds room, and answers where it ends.
-fn put(src: &[u8], dst: &mut [u8], at: usize) -> usize
-    requires { ⌜ at ≤ length (now dst) ⌝ }
-    ensures ends { λ r. ⌜ r ≡ at + min (length (now (src .entry))) (length (now (dst .entry)) - at) ⌝ }
-    ensures puts { λ r. ⌜ now (dst .exit) ≡ paste (now (dst .entry)) at (now (src .entry)) (r - at) ⌝ }
-    ensures fits { λ r. ⌜ Counts r (now (dst .exit)) ⌝ }
-{
-    let n = least(src.len(), dst.len() - at);
-    let mut i = 0;
-    while i < n {
-        dst[at + i] = src[i];
-        i += 1;
-    }
-    at + n
-}
-
 // The path as C reads it, up to a 0.
 fn ended(path: &[u8]) -> [u8; PATH_MAX]
     ensures { λ r. ⌜ Ended r ⌝ }
 {
     let mut text = io::buffer();
-    put(path, &mut text, 0);
+    names::put(path, &mut text, 0);
     text[PATH_MAX - 1] = 0;
     text
 }
@@ -48,8 +29,7 @@ fn is_link(path: &[u8]) -> bool {
 
 // Says that no file is put in the place of what stands at path.
 fn tell_other(path: &[u8]) {
-    io::write_all(STDERR_FILENO, path);
-    io::write_all(STDERR_FILENO, b": Not a regular file\n");
+    names::write_line(STDERR_FILENO, path, b": Not a regular file\n");
 }
 
 // Whether a file may take the place of what stands at path: nothing, or a file that may be read and written, and no link, pipe or
@@ -64,7 +44,7 @@ fn may_replace(path: &[u8]) -> bool {
         if os::errno() == libc::ENOENT {
             return true;
         }
-        os::fail(path);
+        names::fail(path);
         return false;
     }
     let regular = libc::fpathconf(fd, PC_ASYNC_IO) == 1;
@@ -104,18 +84,18 @@ fn beside(path: &[u8], name: &mut [u8; PATH_MAX]) -> usize
     ensures { λ r. ⌜ Counts r (now (name .exit)) ⌝ }
 {
     let end = suffix();
-    let n = put(path, name, 0);
-    put(&end, name, n)
+    let n = names::put(path, name, 0);
+    names::put(&end, name, n)
 }
 
 // Writes the bytes to fd, down to the disk; says so, by path, where it cannot.
 fn fill(fd: i32, bytes: &[u8], path: &[u8]) -> bool {
     if !io::write_all(fd, bytes) {
-        os::fail(path);
+        names::fail(path);
         return false;
     }
     if libc::fsync(fd) < 0 {
-        os::fail(path);
+        names::fail(path);
         return false;
     }
     true
@@ -124,7 +104,7 @@ fn fill(fd: i32, bytes: &[u8], path: &[u8]) -> bool {
 // Closes fd; says so, by path, where what was written may be lost.
 fn shut(fd: i32, path: &[u8]) -> bool {
     if libc::close(fd) < 0 {
-        os::fail(path);
+        names::fail(path);
         return false;
     }
     true
@@ -133,7 +113,7 @@ fn shut(fd: i32, path: &[u8]) -> bool {
 // Gives the file `from` the name path; says so where it cannot.
 fn name_it(from: &[u8], path: &[u8]) -> bool {
     if os::rename(from, path) < 0 {
-        os::fail(path);
+        names::fail(path);
         return false;
     }
     true
@@ -142,7 +122,7 @@ fn name_it(from: &[u8], path: &[u8]) -> bool {
 // Removes the file; says so where it stays.
 fn remove(name: &[u8]) {
     if os::unlink(name) < 0 {
-        os::fail(name);
+        names::fail(name);
     }
 }
 
@@ -168,7 +148,7 @@ fn write_path(path: &[u8], bytes: &[u8]) -> bool {
     let n = beside(path, &mut space);
     let fd = os::create(&space[..n]);
     if fd < 0 {
-        os::fail(path);
+        names::fail(path);
         return false;
     }
     if finish(fd, &space[..n], path, bytes) {
@@ -183,7 +163,7 @@ pub fn write_argument(i: usize, bytes: &[u8]) -> bool {
     let mut path = io::buffer();
     let n = os::arg(i, &mut path);
     if os::errno() != 0 {
-        cut_name(&path);
+        names::fail(&path);
         return false;
     }
     write_path(&path[..n], bytes)

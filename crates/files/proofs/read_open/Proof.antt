@@ -4,7 +4,8 @@ use mathlib.Core.Path.{_≡_}
 use native.Mathlib.Omega.{arith}
 use borrow.Author.Needs.{needs}
 use lib.ListN.{length}
-use Rattle.files.proofs.Counting.{within, within-still, file-bytes, part-within}
+use Rattle.names.proofs.Counting.{within}
+use Rattle.files.proofs.Counting.{within-still, file-bytes, part-within}
 use Rattle.files.proofs.read_open.Statement.{statement}
 use Rattle.files.proofs.read_open.Tie as tie
 

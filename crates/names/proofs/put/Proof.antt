@@ -1,4 +1,4 @@
--- `files::write::put` meets its contract: what stands before i of src stands in dst from `at` on.
+-- `names::put` meets its contract: what stands before i of src stands in dst from `at` on.
 use Prim.Native.Nat.{ℕ, _+_, _-_, _<_, _≤_}
 use mathlib.Core.Path.{_≡_, ap, sym, _∙_}
 use mathlib.Core.List.{List}
@@ -7,9 +7,9 @@ use native.Mathlib.Omega.{arith}
 use borrow.Author.Needs.{needs}
 use lib.ListN.{length, getD, set, length-set}
 use lib.Seq.{paste, paste-zero, paste-suc}
-use Rattle.files.proofs.Counting.{within}
-use Rattle.files.proofs.write.put.Statement.{statement}
-use Rattle.files.proofs.write.put.Tie as tie
+use Rattle.names.proofs.Counting.{within}
+use Rattle.names.proofs.put.Statement.{statement}
+use Rattle.names.proofs.put.Tie as tie
 
 -- one byte more
 further : (d s l : List ℕ) (at i : ℕ) → at + i < length d → i < length s → l ≡ paste d at s i → set l (at + i) (getD s i 0) ≡ paste d at s (i + 1)

@@ -1,0 +1,2 @@
+-- How names of files are shown.
+pub mod Shown
