@@ -1,0 +1,2 @@
+-- Lists of pairs of files.
+pub mod Lists
