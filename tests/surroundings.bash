@@ -76,10 +76,47 @@ make_scratch() {
     ln -s old.pack scratch/packs/link.pack
     ln -s none.pack scratch/packs/loose.pack
     mkfifo scratch/packs/pipe.pack
+    cp examples/division.pack 'scratch/a name.pack'
+    cp examples/division.cert 'scratch/a name.cert'
+    cp examples/loop.pack $'scratch/two\nlines.pack'
+    cp examples/loop-weighted.cert $'scratch/two\nlines.cert'
     ln -s ../loader scratch/link
     ln -s link 'scratch/link of a link'
     mkdir scratch/bare
     ln -s "$(command -v bash)" "$(command -v dirname)" "$(command -v readlink)" "$(command -v nm)" scratch/bare
+    make_thousand
 }
 
-export -f as_nobody unwritable without_rt failing failing_call roomless unread
+# A thousand pairs of files in scratch/: twenty shops with the pairs of tests/shop.txt each, in which some files are missing, some may
+# not be read, and folders stand in the place of some; and the list of all pairs.
+make_thousand() {
+    local shop folder
+    mkdir scratch/thousand
+    for shop in {1..20}; do
+        folder="scratch/thousand/shop $shop"
+        mkdir "$folder"
+        cp examples/*.pack examples/*.cert "$folder"
+        sed -n "s|^\([^; ]*\) \([^ ]*\)\$|$folder/\1\t$folder/\2|p" tests/shop.txt
+    done >scratch/thousand.list
+    rm "scratch/thousand/shop 3"/5.1.5*.pack "scratch/thousand/shop 12"/5.1.6*.cert
+    chmod 000 "scratch/thousand/shop 7"/5.1.8*.pack "scratch/thousand/shop 15"/5.1.2*.cert
+    rm "scratch/thousand/shop 18"/{loop.pack,cut.cert}
+    mkdir "scratch/thousand/shop 18"/{loop.pack,cut.cert}
+}
+
+# Holds the lines of a run over a thousand that tell an answer to the table of the examples, and counts them.
+as_expected() {
+    paste scratch/thousand.list - | awk -F '\t' '
+        NR == FNR { split($0, of, " "); due[of[1] "\t" of[2]] = of[3]; next }
+        $3 != "" && $3 !~ / could not be read$/ {
+            pack = $1; sub(/.*\//, "", pack)
+            certificate = $2; sub(/.*\//, "", certificate)
+            answer = due[pack "\t" certificate]
+            line = $1 (answer == 0 ? " accepted" : " refused " answer)
+            if (answer == "" || line != $3) { print "not as expected: " $3; wrong = 1 }
+            held++
+        }
+        END { print held " as expected"; exit wrong }' examples/expected.txt -
+}
+
+export -f as_nobody unwritable without_rt failing failing_call roomless unread as_expected

@@ -1,7 +1,8 @@
 // The loader's questions on the command line.
 mod numbers;
 
-ghost use Prim.Native.Nat.{_≤_};
+ghost use Prim.Native.Nat.{_+_, _≤_};
+ghost use Rattle.runs.specs.Runs.{greatest};
 use files::FileRead;
 use libc::STDERR_FILENO;
 use libc::STDOUT_FILENO;
@@ -9,27 +10,19 @@ use numbers::Parsed;
 use pairs::ArcAnswer;
 use records::Answer;
 use records::Refusal;
+use runs::CERTIFICATE_ROOM;
+use runs::Ended;
+use runs::PACK_ROOM;
 use teldyzhom::Checked;
 
 // The descriptor that the script `loader` reads the status from: a program has no exit status of its own.
 const STATUS_FILENO: i32 = 3;
 
-// One byte more than the limit of a file is enough to see that it is too long.
-const PACK_ROOM: usize = records::MOST_PACK_BYTES + 1;
-
-const CERTIFICATE_ROOM: usize = records::MOST_CERTIFICATE_BYTES + 1;
-
+// One byte more than a text may have, as for packs and certificates.
 const TEXT_ROOM: usize = records::MOST_TEXT_BYTES + 1;
 
 // A list of 2,048 pairs, the most there can be.
 const LIST_ROOM: usize = 8 * records::MOST_PAIRS;
-
-// How a run ended: accepted, yes, a listing or a pack; refused or no; or nothing could be judged.
-enum Ended {
-    Good,
-    Against,
-    Unjudged,
-}
 
 // What the run comes to once its answer was written, or not.
 fn after(written: bool, answer: Ended) -> Ended {
@@ -51,7 +44,7 @@ fn refused(x: Refusal) -> Ended {
 fn usage() -> Ended {
     io::write_all(
         STDERR_FILENO,
-        b"usage: loader check PACK CERTIFICATE\n       loader pairs PACK\n       loader arc PACK RULE PLACE RULE PLACE\n       loader read TEXT PACK\n",
+        b"usage: loader check PACK CERTIFICATE [PACK CERTIFICATE ..]\n       loader check --list FILE\n       loader check --list0 FILE\n       loader pairs PACK\n       loader arc PACK RULE PLACE RULE PLACE\n       loader read TEXT PACK\n",
     );
     Ended::Unjudged
 }
@@ -155,19 +148,67 @@ fn read(text_at: usize, pack_at: usize) -> Ended {
     }
 }
 
+// Whether an argument from `first` on below `end` is `-`.
+fn names_input(first: usize, end: usize) -> bool
+    requires { ⌜ first ≤ end ⌝ }
+{
+    let mut i = first;
+    while i < end {
+        if files::is_input(i) {
+            return true;
+        }
+        i += 1;
+    }
+    false
+}
+
+// Checks the pairs of a list. Its name is the one argument after the flag, argument `first`; its lines end in that byte.
+fn check_list(first: usize, end: usize, ends: u8) -> Ended
+    requires { ⌜ first + 2 ≤ end ⌝ }
+{
+    if end - first == 2 {
+        return runs::check_list(first + 1, ends);
+    }
+    usage()
+}
+
+// Checks the one pair, the list, or each of the pairs that the arguments from `first` on below `end` name.
+fn check_all(first: usize, end: usize) -> Ended
+    requires { ⌜ first + 2 ≤ end ⌝ }
+{
+    if files::is_word(first, b"--list") {
+        return check_list(first, end, lists::LINE_END);
+    }
+    if files::is_word(first, b"--list0") {
+        return check_list(first, end, lists::ZERO);
+    }
+    if end - first == 2 {
+        // Standard input has one file.
+        if files::is_input(first) {
+            if files::is_input(first + 1) {
+                return usage();
+            }
+        }
+        return check(first, first + 1);
+    }
+    // An odd one is of no pair, and standard input is no file of a run over several.
+    if (end - first) % 2 == 1 {
+        return usage();
+    }
+    if names_input(first, end) {
+        return usage();
+    }
+    runs::check_named(first, end)
+}
+
 // Answers the question whose verb is argument `at`, of `given` words from the verb on.
 fn answer(at: usize, given: usize) -> Ended
     requires { ⌜ at ≤ 2 ⌝ }
+    requires { ⌜ at + given ≤ greatest ⌝ }
 {
-    if given == 3 {
+    if 2 < given {
         if files::is_word(at, b"check") {
-            // Standard input has one file.
-            if files::is_input(at + 1) {
-                if files::is_input(at + 2) {
-                    return usage();
-                }
-            }
-            return check(at + 1, at + 2);
+            return check_all(at + 1, at + given);
         }
     }
     if given == 3 {

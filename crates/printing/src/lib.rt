@@ -1,4 +1,5 @@
-// What the programs print. Each function answers whether all of it was written.
+// What the programs print. A function that answers says whether all of it was written.
+pub mod lines;
 pub mod words;
 
 use libc::STDOUT_FILENO;

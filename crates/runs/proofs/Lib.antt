@@ -1,0 +1,2 @@
+-- How answers are counted.
+pub mod Counting
