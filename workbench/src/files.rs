@@ -2,7 +2,7 @@
 
 use crate::report::Failure;
 use std::fs::{self, File, OpenOptions};
-use std::io::{self, Write};
+use std::io::{self, Read, Write};
 use std::path::{Path, PathBuf};
 
 pub fn read(path: impl AsRef<Path>) -> Result<Vec<u8>, Failure> {
@@ -11,6 +11,49 @@ pub fn read(path: impl AsRef<Path>) -> Result<Vec<u8>, Failure> {
 
 pub fn read_text(path: impl AsRef<Path>) -> Result<String, Failure> {
     fs::read_to_string(&path).map_err(|why| failure(path.as_ref(), &why))
+}
+
+/// Reads a file into a lent buffer until a read gives 0, as it does where the buffer is full; answers the length.
+pub fn read_into(path: impl AsRef<Path>, buffer: &mut [u8]) -> Result<usize, Failure> {
+    let filled = File::open(&path).and_then(|file| fill_buffer(file, buffer));
+    filled.map_err(|why| failure(path.as_ref(), &why))
+}
+
+fn fill_buffer(mut file: File, buffer: &mut [u8]) -> io::Result<usize> {
+    let mut length = 0;
+    loop {
+        match file.read(&mut buffer[length..])? {
+            0 => return Ok(length),
+            more => length += more,
+        }
+    }
+}
+
+/// The same file, named from the root.
+pub fn absolute(path: impl AsRef<Path>) -> Result<PathBuf, Failure> {
+    fs::canonicalize(&path).map_err(|why| failure(path.as_ref(), &why))
+}
+
+/// A fresh folder among the temporary ones, removed with all in it when dropped.
+pub struct Temporary(PathBuf);
+
+impl Temporary {
+    pub fn new(name: &str) -> Result<Temporary, Failure> {
+        let path = absolute(std::env::temp_dir())?.join(format!("{name}.{}", std::process::id()));
+        fs::create_dir(&path).map_err(|why| failure(&path, &why))?;
+        Ok(Temporary(path))
+    }
+
+    pub fn path(&self) -> &Path {
+        &self.0
+    }
+}
+
+impl Drop for Temporary {
+    fn drop(&mut self) {
+        // What was found is worth more than a folder that stays.
+        let _ = fs::remove_dir_all(&self.0);
+    }
 }
 
 /// Writes all of a file or leaves it as it was.

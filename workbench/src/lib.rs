@@ -4,6 +4,7 @@ pub mod checker;
 pub mod encode;
 pub mod examples;
 pub mod files;
+pub mod folder;
 pub mod generate;
 pub mod graph;
 pub mod implementation;

@@ -23,6 +23,17 @@ pub enum Failure {
     Usage(String),
 }
 
+impl Failure {
+    /// The same failure in other words.
+    pub fn told(self, tell: impl FnOnce(String) -> String) -> Failure {
+        match self {
+            Failure::Refused(why) => Failure::Refused(tell(why)),
+            Failure::CouldNotRun(why) => Failure::CouldNotRun(tell(why)),
+            Failure::Usage(why) => Failure::Usage(tell(why)),
+        }
+    }
+}
+
 /// What a program was called with.
 pub struct Arguments {
     flags: Vec<String>,

@@ -124,6 +124,39 @@ fn bench_and_search_refuse_wrong_arguments() {
     fails(SEARCH, &["no-such-file"], 2);
 }
 
+/// It is built with the library only; a tool that fails is no answer, and no folder stays behind.
+#[cfg(all(feature = "library", target_os = "linux"))]
+#[test]
+fn folder_refuses_wrong_arguments_and_answers() {
+    use std::os::unix::fs::PermissionsExt;
+    const FOLDER: &str = env!("CARGO_BIN_EXE_folder");
+    for count in ["0", "100001", "-1", "+1", "x", ""] {
+        misused(FOLDER, &["/bin/true", "/bin/true", count]);
+    }
+    misused(FOLDER, &["/bin/true"]);
+    misused(FOLDER, &["/bin/true", "/bin/true", "1", "1"]);
+    let tools = folder("tools");
+    let wrong = write(&tools, "wrong", "#!/bin/sh\necho refused 24\n");
+    let failing = write(&tools, "failing", "#!/bin/sh\necho no room >&2\nexit 2\n");
+    for tool in [&wrong, &failing] {
+        fs::set_permissions(tool, fs::Permissions::from_mode(0o755)).unwrap();
+    }
+    let room = folder("no-folder-stays");
+    for (tool, status, words) in [
+        (wrong.as_str(), 1, "00000.pack: \"refused 24\", not \"accepted\""),
+        ("/bin/true", 2, "0 whole lines, not 1"),
+        (failing.as_str(), 2, "exit status: 2; standard error ends in \"no room\""),
+        ("no-such-file", 2, "no-such-file: "),
+    ] {
+        let output = Command::new(FOLDER).args([tool, tool, "1"]).env("TMPDIR", &room).output().unwrap();
+        let why = text(&output.stderr);
+        assert_eq!(output.status.code(), Some(status), "{tool}: {why}");
+        assert!(why.contains(words) && why.lines().count() == 1, "{tool}: {why}");
+        assert_eq!(text(&output.stdout), "", "{tool}");
+        assert_eq!(names(&room), [] as [&str; 0], "{tool}");
+    }
+}
+
 #[test]
 fn assemble_and_disassemble_refuse_wrong_arguments() {
     let pack = example("division.pack");

@@ -13,7 +13,7 @@ use workbench::checker::{is_defined, judge_pack, pairs, PACK_LIMIT};
 use workbench::encode::{certificate_bytes, pack_bytes};
 use workbench::examples::{checks, default_folder};
 use workbench::generate::lexicographic::of_levels;
-use workbench::generate::packs::{dense, guided, Base, Size};
+use workbench::generate::packs::{dense, guided, seeded, Base, Size};
 use workbench::generate::weightings::split;
 use workbench::implementation::{all, library_and_before, Copies, Implementation};
 use workbench::random::Random;
@@ -132,11 +132,6 @@ fn asked(pack: Vec<u8>, certificate: Vec<u8>) -> File {
     let ends = (all.first().copied().unwrap_or_default(), all.last().copied().unwrap_or_default());
     let question = [ends.0 .0, ends.0 .1, ends.1 .0, ends.1 .1].map(u32::from);
     File { pack, certificate, question }
-}
-
-fn seeded(count: u64, make: impl Fn(&mut Random) -> Base) -> Vec<Base> {
-    let bases = (1..).map(|seed| make(&mut Random::new(seed * 7_919)));
-    bases.filter(|base| !base.components.is_empty()).take(count as usize).collect()
 }
 
 fn workloads() -> Vec<Workload> {

@@ -46,6 +46,12 @@ pub fn guided(random: &mut Random, size: Size) -> Base {
     Base { pack, components }
 }
 
+/// So many with a pair at least, always the same.
+pub fn seeded(count: usize, make: impl Fn(&mut Random) -> Base) -> impl Iterator<Item = Base> {
+    let bases = (1..).map(move |seed| make(&mut Random::new(seed * 7_919)));
+    bases.filter(|base| !base.components.is_empty()).take(count)
+}
+
 /// Rules, symbols, nodes a side, variables.
 fn extent(random: &mut Random, size: Size) -> (usize, usize, usize, usize) {
     match size {
