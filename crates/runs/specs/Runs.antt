@@ -2,11 +2,28 @@
 use mathlib.Core.Path.{_≡_}
 use mathlib.Core.Logic.{_⊎_}
 use Prim.Native.Nat.{ℕ, _+_, _<_}
+use Rattle.teldyzhom.specs.declared.Checked.{Checked}
+use Rattle.teldyzhom.specs.declared.Checked.the-variants.{Accepted as Check-accepted, Refused as Check-refused}
 use Rattle.runs.specs.declared.Tally.{Tally}
 use Rattle.runs.specs.declared.Told.{Told}
 use Rattle.runs.specs.declared.Told.the-variants.{Accepted, Refused, Unread, Nothing, Lost}
+use Rattle.runs.specs.declared.Run.{Run}
+use Rattle.runs.specs.declared.Run.the-variants.{Whole, Broken}
 use Rattle.runs.specs.declared.Ended.{Ended}
 use Rattle.runs.specs.declared.Ended.the-variants.{Good, Against, Unjudged}
+
+-- what is told of a pair that was judged
+abbrev pub told-of : Checked → Told
+told-of Check-accepted = Accepted
+told-of (Check-refused x) = Refused
+
+-- a pair was told so, or its line could not be written
+abbrev pub Told-as : (due : Told) → Told → Type 0
+Told-as due r = (r ≡ due) ⊎ (r ≡ Lost)
+
+-- something was told of a pair, or its line could not be written
+abbrev pub Answered : Told → Type 0
+Answered r = r ≡ Nothing → ⊥
 
 -- the greatest number of 64 bits
 abbrev pub greatest : ℕ
@@ -39,3 +56,8 @@ Worst t Unjudged = (0 < t .unread) ⊎ (total t ≡ 0)
 -- a run that was told ends so; one whose last line could not be written has judged nothing
 abbrev pub Concluded : Tally → Ended → Type 0
 Concluded t e = Worst t e ⊎ (e ≡ Unjudged)
+
+-- each of n pairs was counted
+abbrev pub All-counted : (n : ℕ) → Run → Type 0
+All-counted n (Whole t) = total t ≡ n
+All-counted n Broken = Unit {0}

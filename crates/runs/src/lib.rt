@@ -1,8 +1,9 @@
 // The check of several pairs of files in one run: a line a pair, in their order, and a last line with the counts.
 ghost use mathlib.Core.Path.{_≡_};
-ghost use Prim.Native.Nat.{_+_, _≤_, _<_};
+ghost use Prim.Native.Nat.{_+_, _-_, _/_, _≤_, _<_};
 ghost use Rattle.runs.specs.declared.Ended.the-variants.{Unjudged};
-ghost use Rattle.runs.specs.Runs.{greatest, total, Concluded, Counted, Worst};
+ghost use Rattle.runs.specs.declared.Told.the-variants.{Unread};
+ghost use Rattle.runs.specs.Runs.{greatest, told-of, total, All-counted, Answered, Concluded, Counted, Told-as, Worst};
 use files::FileRead;
 use libc::PATH_MAX;
 use libc::STDERR_FILENO;
@@ -44,6 +45,12 @@ pub struct Tally {
     pub accepted: u64,
     pub refused: u64,
     pub unread: u64,
+}
+
+// The counts of a run over all its pairs, or that it was broken off since a line could not be written.
+enum Run {
+    Whole(Tally),
+    Broken,
 }
 
 // One pair more.
@@ -107,21 +114,29 @@ fn conclude(t: Tally) -> Ended
     worst(t)
 }
 
-fn if_written(written: bool, answer: Told) -> Told {
+fn if_written(written: bool, answer: Told) -> Told
+    ensures { λ r. ⌜ Told-as answer r ⌝ }
+{
     if printing::finished(written) {
         return answer;
     }
     Told::Lost
 }
 
-fn tell_checked(name: &[u8], answer: Checked) -> Told {
+fn tell_checked(name: &[u8], answer: Checked) -> Told
+    ensures says { λ r. ⌜ Told-as (told-of answer) r ⌝ }
+    ensures answers { λ r. ⌜ Answered r ⌝ }
+{
     match answer {
         Checked::Accepted => if_written(printing::lines::accepted(name), Told::Accepted),
         Checked::Refused(x) => if_written(printing::lines::refused(name, x), Told::Refused),
     }
 }
 
-fn tell_unread(name: &[u8]) -> Told {
+fn tell_unread(name: &[u8]) -> Told
+    ensures says { λ r. ⌜ Told-as Unread r ⌝ }
+    ensures answers { λ r. ⌜ Answered r ⌝ }
+{
     if_written(printing::lines::unread(name), Told::Unread)
 }
 
@@ -131,7 +146,9 @@ fn check_pair(
     certificate_name: &[u8],
     pack: &mut [u8],
     certificate: &mut [u8],
-) -> Told {
+) -> Told
+    ensures { λ r. ⌜ Answered r ⌝ }
+{
     let pack_read = files::read_path(pack_name, pack);
     if let FileRead::Failed = pack_read {
         return tell_unread(pack_name);
@@ -152,6 +169,7 @@ fn check_pair(
 // either.
 fn check_arguments(at: usize, pack: &mut [u8], certificate: &mut [u8]) -> Told
     requires { ⌜ at + 1 ≤ greatest ⌝ }
+    ensures { λ r. ⌜ Answered r ⌝ }
 {
     let mut pack_name = io::buffer();
     let n = os::arg(at, &mut pack_name);
@@ -169,8 +187,9 @@ fn check_arguments(at: usize, pack: &mut [u8], certificate: &mut [u8]) -> Told
 }
 
 // Checks the pairs that the arguments from `first` on below `end` name.
-fn check_each(first: usize, end: usize, pack: &mut [u8], certificate: &mut [u8]) -> Ended
+fn check_each(first: usize, end: usize, pack: &mut [u8], certificate: &mut [u8]) -> Run
     requires { ⌜ first ≤ end ⌝ }
+    ensures { λ r. ⌜ All-counted ((end - first) / 2) r ⌝ }
 {
     let mut t = Tally {
         accepted: 0,
@@ -181,13 +200,13 @@ fn check_each(first: usize, end: usize, pack: &mut [u8], certificate: &mut [u8])
     while 1 < end - at {
         let told = check_arguments(at, pack, certificate);
         if let Told::Lost = told {
-            return Ended::Unjudged;
+            return Run::Broken;
         }
         t = counted(t, told);
         printing::lines::progress(all(t));
         at += 2;
     }
-    conclude(t)
+    Run::Whole(t)
 }
 
 // Checks the pairs of files that the arguments from `first` on below `end` name.
@@ -196,7 +215,10 @@ pub fn check_named(first: usize, end: usize) -> Ended
 {
     let mut pack = [0u8; PACK_ROOM];
     let mut certificate = [0u8; CERTIFICATE_ROOM];
-    check_each(first, end, &mut pack, &mut certificate)
+    match check_each(first, end, &mut pack, &mut certificate) {
+        Run::Whole(t) => conclude(t),
+        Run::Broken => Ended::Unjudged,
+    }
 }
 
 // Tells why a line names no pair.
