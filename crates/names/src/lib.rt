@@ -104,7 +104,8 @@ fn put_name(name: &[u8], out: &mut [u8], at: usize) -> usize
 
 // Puts the name into out from its start on as it is shown, one that is too long for a file's by its beginning; answers where it ends.
 fn put_title(name: &[u8], out: &mut [u8]) -> usize
-    ensures says { λ r. ⌜ (length (now (name .entry)) < 4096 → 4 * length (now (name .entry)) ≤ length (now (out .entry)) → take r (now (out .exit)) ≡ shown (now (name .entry))) ⌝ }
+    requires { ⌜ 4 * 4095 ≤ length (now out) ⌝ }
+    ensures says { λ r. ⌜ (length (now (name .entry)) < 4096 → take r (now (out .exit)) ≡ shown (now (name .entry))) ⌝ }
     ensures fits { λ r. ⌜ Counts r (now (out .exit)) ⌝ }
 {
     if name.len() < PATH_MAX {

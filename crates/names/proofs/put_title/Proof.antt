@@ -10,11 +10,11 @@ put-title-spec =
     (tie.spec
     (λ c κs. search needs)
     (λ c. search needs)
-    (λ c. let p = c .before .before .put-name in (λ short room. p .ensures .0 (omega (arith, room)), p .ensures .1))
+    (λ c. let p = c .before .before .put-name in (λ short. p .ensures .0 (omega (arith, short)), p .ensures .1))
     (λ c κs. search needs)
     (λ c. search needs)
     (λ c κs. search needs)
     (λ c. search needs)
     (λ c κs. search needs)
     (λ c. search needs)
-    (λ c. (λ short room. absurd (omega (arith, short)), c .before .before .put .ensures .1 .1)))
+    (λ c. (λ short. absurd (omega (arith, short)), c .before .before .put .ensures .1 .1)))
