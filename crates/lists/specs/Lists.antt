@@ -1,14 +1,29 @@
 -- What is taken from a list of pairs of files, and how a line is split.
 use mathlib.Core.Path.{_≡_}
+use mathlib.Core.Bool.{Bool, true, false}
 use mathlib.Core.List.{List}
-use Prim.Native.Nat.{ℕ, _+_, _-_, _≤_, _<_}
+use Prim.Native.Nat.{ℕ, zero, suc, _+_, _-_, _≤_, _<_}
 use lib.ListN.{length, getD, take, drop}
 use Rattle.io.specs.Counts.{Counts}
+use Rattle.files.specs.declared.FileRead.{FileRead}
+use Rattle.files.specs.declared.FileRead.the-variants.{Bytes, Failed as Read-failed}
 use Rattle.lists.specs.declared.Next.{Next}
-use Rattle.lists.specs.declared.Taken.the-variants.{Line}
+use Rattle.lists.specs.declared.Taken.{Taken}
+use Rattle.lists.specs.declared.Taken.the-variants.{Line, Unended, End, Failed}
 use Rattle.lists.specs.declared.Window.{Window}
 use Rattle.lists.specs.declared.Tabs.{Tabs}
 use Rattle.lists.specs.declared.Tabs.the-variants.{One, Other}
+
+-- the bytes that a window's start holds, and whether it could be read
+pub record Holds (n : ℕ) (failed : Bool) (w : Window) : Type 0 where
+  pub starts : w .from ≡ 0
+  pub ends : w .to ≡ n
+  pub fails : w .failed ≡ failed
+
+-- what was read stands at the window's start, all of it; a read that failed is no end of the list
+abbrev pub Filled : FileRead → Window → Type 0
+Filled (Bytes n) w = Holds n false w
+Filled Read-failed w = Holds 0 true w
 
 -- where the bytes stand that are still to be taken: as before, and the window too, where some were left
 pub record Refilled (from to : ℕ) (before : List ℕ) (r : Window) (window : List ℕ) : Type 0 where
@@ -43,8 +58,15 @@ pub record Whole (window line : List ℕ) (at end k : ℕ) (r : Next) (after : L
   pub up-to : r .to ≡ end
   pub window-kept : after ≡ window
 
+-- what a list comes to where nothing is left of it: it could not be read, or ended after a line, or within one
+unfoldable pub at-end : (failed : Bool) (bytes : ℕ) → Taken
+at-end true n = Failed
+at-end false zero = End
+at-end false (suc n) = Unended
+
 -- nothing is still to be taken
-pub record Emptied (bytes : ℕ) (r : Next) : Type 0 where
+pub record Emptied (failed : Bool) (bytes : ℕ) (r : Next) : Type 0 where
+  pub is : r .taken ≡ at-end failed bytes
   pub all : r .bytes ≡ bytes
   pub none : r .to ≡ 0
 
@@ -58,9 +80,10 @@ pub record First (line : List ℕ) (at r : ℕ) : Type 0 where
   pub none-before : None-between tab line at r
   pub here : r < length line → getD line r 0 ≡ tab
 
--- a line is two names with a tab between, neither of which holds a tab
+-- a line is two names with a tab between, neither of which is empty or holds a tab
 pub record Two-names (line : List ℕ) (k : ℕ) : Type 0 where
-  pub within : k < length line
+  pub first-name : 0 < k
+  pub second-name : k + 1 < length line
   pub here : getD line k 0 ≡ tab
   pub alone : (j : ℕ) → j < length line → getD line j 0 ≡ tab → j ≡ k
 

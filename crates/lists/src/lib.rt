@@ -2,7 +2,7 @@
 // hold one, in a byte 0. A list may be longer than any buffer, so what was read of it and not yet taken stands in a window.
 ghost use Prim.Native.Nat.{ℕ, _-_, _≤_, _<_};
 ghost use lib.ListN.{length};
-ghost use Rattle.lists.specs.Lists.{Emptied, Ends-at, First, Refilled, Splits, Stands, Whole};
+ghost use Rattle.lists.specs.Lists.{Emptied, Ends-at, Filled, First, Refilled, Splits, Stands, Whole};
 use files::FileRead;
 
 const TAB: u8 = 9;
@@ -11,10 +11,11 @@ pub const LINE_END: u8 = 10;
 
 pub const ZERO: u8 = 0;
 
-// What was taken from a list: a line, the start or a part of one that is longer than the buffer, nothing since the list has ended,
-// or nothing since it could not be read.
+// What was taken from a list: a line, a last line without its end, the start or a part of one that is longer than the buffer,
+// nothing since the list has ended, or nothing since it could not be read.
 pub enum Taken {
     Line,
+    Unended,
     Part,
     End,
     Failed,
@@ -35,19 +36,11 @@ struct Window {
     failed: bool,
 }
 
-// Reads on where all of the window has been taken.
-fn refilled(fd: i32, window: &mut [u8], from: usize, to: usize) -> Window
-    requires { ⌜ to ≤ length (now window) ⌝ }
-    ensures { λ r. ⌜ Refilled from to (now (window .entry)) r (now (window .exit)) ⌝ }
+// Where what was read stands.
+fn filled(r: FileRead) -> Window
+    ensures { λ w. ⌜ Filled r w ⌝ }
 {
-    if from < to {
-        return Window {
-            from: from,
-            to: to,
-            failed: false,
-        };
-    }
-    match files::read_once(fd, window) {
+    match r {
         FileRead::Bytes(n) => Window {
             from: 0,
             to: n,
@@ -61,9 +54,24 @@ fn refilled(fd: i32, window: &mut [u8], from: usize, to: usize) -> Window
     }
 }
 
-// The list has ended after so many bytes of a line, or cannot be read: a last line may lack its end.
+// Reads on where all of the window has been taken.
+fn refilled(fd: i32, window: &mut [u8], from: usize, to: usize) -> Window
+    requires { ⌜ to ≤ length (now window) ⌝ }
+    ensures { λ r. ⌜ Refilled from to (now (window .entry)) r (now (window .exit)) ⌝ }
+{
+    if from < to {
+        return Window {
+            from: from,
+            to: to,
+            failed: false,
+        };
+    }
+    filled(files::read_once(fd, window))
+}
+
+// The list has ended after so many bytes of a line, or cannot be read.
 fn ended(bytes: usize, failed: bool) -> Next
-    ensures { λ r. ⌜ Emptied bytes r ⌝ }
+    ensures { λ r. ⌜ Emptied failed bytes r ⌝ }
 {
     if failed {
         return Next {
@@ -82,7 +90,7 @@ fn ended(bytes: usize, failed: bool) -> Next
         };
     }
     Next {
-        taken: Taken::Line,
+        taken: Taken::Unended,
         bytes: bytes,
         from: 0,
         to: 0,
@@ -148,7 +156,7 @@ fn find_tab(line: &[u8], at: usize) -> usize
     i
 }
 
-// The place of a line's one tab, or that it has none, or two.
+// The place of the one tab between two names, or that the line is no two names with a tab between.
 pub enum Tabs {
     One(usize),
     Other,
@@ -162,6 +170,12 @@ pub fn only_tab(line: &[u8]) -> Tabs
         return Tabs::Other;
     }
     if find_tab(line, k + 1) < line.len() {
+        return Tabs::Other;
+    }
+    if k == 0 {
+        return Tabs::Other;
+    }
+    if k + 1 == line.len() {
         return Tabs::Other;
     }
     Tabs::One(k)

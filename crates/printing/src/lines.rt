@@ -34,6 +34,14 @@ pub fn unread(name: &[u8]) -> bool {
     names::write_line(STDOUT_FILENO, name, b" could not be read\n")
 }
 
+// Tells on standard error why a line of that list names no pair.
+pub fn bad_line(list: &[u8], number: u64, why: &[u8]) {
+    let mut words = [0u8; 96];
+    let n = put_count(b": line ", number, &mut words, 0);
+    let end = names::put(why, &mut words, n);
+    names::write_line(STDERR_FILENO, list, &words[..end]);
+}
+
 // The last line. It ends in a number after `read`, as no line of a pair does, whatever its file is called.
 pub fn counts(accepted: u64, refused: u64, unread: u64) -> bool {
     let mut text = [0u8; 128];

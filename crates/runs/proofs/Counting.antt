@@ -1,18 +1,22 @@
--- A pair is told as the check judged it, and counted by the answer that was told of it.
+-- A pair is told as the check judged it, and counted by the answer that was told of it; no line of a list is passed over.
 use mathlib.Core.Path.{_≡_, refl, sym, subst, _∙_}
+use mathlib.Core.Bool.{Bool, true, false}
 use mathlib.Core.Logic.{⊎-elim}
 use mathlib.Core.List.{[], _∷_}
 use Prim.Native.Nat.{ℕ, _+_}
 use native.Mathlib.Omega.{arith}
 use types.Run.{OneOf, miss}
 use denote.Enum.Declared.{tagOf}
+use Rattle.lists.specs.declared.Taken.{Taken}
 use Rattle.teldyzhom.specs.declared.Checked.{Checked}
 use Rattle.teldyzhom.specs.declared.Checked.the-variants.{Accepted as Check-accepted, Refused as Check-refused}
+use Rattle.runs.specs.declared.Ended.{Ended}
+use Rattle.runs.specs.declared.Run.{Run}
 use Rattle.runs.specs.declared.Tally.{Tally}
 use Rattle.runs.specs.declared.Told.{Told}
 use Rattle.runs.proofs.Told.{the-type}
 use Rattle.runs.specs.declared.Told.the-variants.{Accepted, Refused, Unread, Nothing, Lost}
-use Rattle.runs.specs.Runs.{told-of, total, Told-as, Answered, Counted, Adds}
+use Rattle.runs.specs.Runs.{told-of, total, Told-as, Answered, Told-once, Counted, Adds, Run-ends}
 
 pub by-answer : (t s : Tally) (x : Told) {y : Told} → x ≡ y → Counted t y s → Counted t x s
 by-answer t s x e h = subst (λ (z : Told). Counted t z s) (sym e) h
@@ -54,3 +58,14 @@ counts-one t s Refused a k n = omega (arith, n .accepted-more, n .refused-more, 
 counts-one t s Unread a k n = omega (arith, n .accepted-more, n .refused-more, n .unread-more)
 counts-one t s Nothing a k n = absurd (a refl)
 counts-one t s Lost a k n = absurd (miss (0 ∷ 1 ∷ 2 ∷ 3 ∷ []) 4 tt k)
+
+pub by-run : (e : Ended) (x : Run) {y : Run} → x ≡ y → Run-ends y e → Run-ends x e
+by-run e x q h = subst (λ (z : Run). Run-ends z e) (sym q) h
+
+-- LINES OF A LIST
+
+pub further-part : (b : Bool) (x : Taken) (r : Told) → b ≡ true → r ≡ Nothing → Told-once b x r
+further-part b x r e h = subst (λ (z : Bool). Told-once z x r) (sym e) h
+
+pub by-taken : (b : Bool) (x : Taken) (r : Told) {y : Taken} → b ≡ false → x ≡ y → Told-once false y r → Told-once b x r
+by-taken b x r e q h = subst (λ (z : Bool). Told-once z x r) (sym e) (subst (λ (z : Taken). Told-once false z r) (sym q) h)

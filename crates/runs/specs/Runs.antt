@@ -1,7 +1,10 @@
 -- What a run over several pairs of files comes to: the counts, and the worst of the answers.
 use mathlib.Core.Path.{_≡_}
+use mathlib.Core.Bool.{Bool, true, false}
 use mathlib.Core.Logic.{_⊎_}
 use Prim.Native.Nat.{ℕ, _+_, _<_}
+use Rattle.lists.specs.declared.Taken.{Taken}
+use Rattle.lists.specs.declared.Taken.the-variants.{Line, Unended, Part, End, Failed}
 use Rattle.teldyzhom.specs.declared.Checked.{Checked}
 use Rattle.teldyzhom.specs.declared.Checked.the-variants.{Accepted as Check-accepted, Refused as Check-refused}
 use Rattle.runs.specs.declared.Tally.{Tally}
@@ -24,6 +27,15 @@ Told-as due r = (r ≡ due) ⊎ (r ≡ Lost)
 -- something was told of a pair, or its line could not be written
 abbrev pub Answered : Told → Type 0
 Answered r = r ≡ Nothing → ⊥
+
+-- something is told of each line, and nothing of its further parts
+abbrev pub Told-once : (begun : Bool) → Taken → Told → Type 0
+Told-once true x r = r ≡ Nothing
+Told-once false Line r = Answered r
+Told-once false Unended r = Answered r
+Told-once false Part r = Answered r
+Told-once false End r = r ≡ Nothing
+Told-once false Failed r = r ≡ Nothing
 
 -- the greatest number of 64 bits
 abbrev pub greatest : ℕ
@@ -61,3 +73,8 @@ Concluded t e = Worst t e ⊎ (e ≡ Unjudged)
 abbrev pub All-counted : (n : ℕ) → Run → Type 0
 All-counted n (Whole t) = total t ≡ n
 All-counted n Broken = Unit {0}
+
+-- and the run ends as its counts say; one that was broken off has judged nothing
+abbrev pub Run-ends : Run → Ended → Type 0
+Run-ends (Whole t) e = Concluded t e
+Run-ends Broken e = e ≡ Unjudged

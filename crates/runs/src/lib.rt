@@ -3,7 +3,7 @@ ghost use mathlib.Core.Path.{_≡_};
 ghost use Prim.Native.Nat.{_+_, _-_, _/_, _≤_, _<_};
 ghost use Rattle.runs.specs.declared.Ended.the-variants.{Unjudged};
 ghost use Rattle.runs.specs.declared.Told.the-variants.{Unread};
-ghost use Rattle.runs.specs.Runs.{greatest, told-of, total, All-counted, Answered, Concluded, Counted, Told-as, Worst};
+ghost use Rattle.runs.specs.Runs.{greatest, told-of, total, All-counted, Answered, Concluded, Counted, Run-ends, Told-as, Told-once, Worst};
 use files::FileRead;
 use libc::PATH_MAX;
 use libc::STDERR_FILENO;
@@ -32,7 +32,7 @@ pub enum Ended {
 
 // What was told of a pair: its answer; nothing, of a further part of a line that was told of already; or that it could not be
 // written.
-pub enum Told {
+enum Told {
     Accepted,
     Refused,
     Unread,
@@ -41,10 +41,10 @@ pub enum Told {
 }
 
 // How many pairs were accepted, were refused and could not be read.
-pub struct Tally {
-    pub accepted: u64,
-    pub refused: u64,
-    pub unread: u64,
+struct Tally {
+    accepted: u64,
+    refused: u64,
+    unread: u64,
 }
 
 // The counts of a run over all its pairs, or that it was broken off since a line could not be written.
@@ -209,46 +209,91 @@ fn check_each(first: usize, end: usize, pack: &mut [u8], certificate: &mut [u8])
     Run::Whole(t)
 }
 
+// The end of a run over arguments.
+fn conclude_run(run: Run) -> Ended
+    ensures { λ r. ⌜ Run-ends run r ⌝ }
+{
+    match run {
+        Run::Whole(t) => conclude(t),
+        Run::Broken => Ended::Unjudged,
+    }
+}
+
 // Checks the pairs of files that the arguments from `first` on below `end` name.
 pub fn check_named(first: usize, end: usize) -> Ended
     requires { ⌜ first ≤ end ⌝ }
 {
     let mut pack = [0u8; PACK_ROOM];
     let mut certificate = [0u8; CERTIFICATE_ROOM];
-    match check_each(first, end, &mut pack, &mut certificate) {
-        Run::Whole(t) => conclude(t),
-        Run::Broken => Ended::Unjudged,
-    }
+    conclude_run(check_each(first, end, &mut pack, &mut certificate))
 }
 
-// Tells why a line names no pair.
-fn tell_line(line: &[u8], why: &[u8]) -> Told {
-    names::write_line(STDERR_FILENO, line, why);
+// Tells why the line of that number of that list names no pair.
+fn tell_line(list: &[u8], number: u64, line: &[u8], why: &[u8]) -> Told
+    ensures { λ r. ⌜ Answered r ⌝ }
+{
+    printing::lines::bad_line(list, number, why);
     tell_unread(line)
 }
 
 // Checks the pair that a line names.
-fn check_line(line: &[u8], pack: &mut [u8], certificate: &mut [u8]) -> Told {
+fn check_line(
+    list: &[u8],
+    number: u64,
+    line: &[u8],
+    pack: &mut [u8],
+    certificate: &mut [u8],
+) -> Told
+    ensures { λ r. ⌜ Answered r ⌝ }
+{
     let Tabs::One(k) = lists::only_tab(line) else {
-        return tell_line(line, b": Not a pack, a tab and a certificate\n");
+        return tell_line(
+            list,
+            number,
+            line,
+            b": Not a pack, a tab and a certificate\n",
+        );
     };
     check_pair(&line[..k], &line[k + 1..], pack, certificate)
+}
+
+// Checks the pair that a last line without its end names. Editors leave a line so; where a byte 0 ends lines, the list was cut.
+fn check_unended(
+    ends: u8,
+    list: &[u8],
+    number: u64,
+    line: &[u8],
+    pack: &mut [u8],
+    certificate: &mut [u8],
+) -> Told
+    ensures { λ r. ⌜ Answered r ⌝ }
+{
+    if ends == lists::ZERO {
+        return tell_line(list, number, line, b": Line without its end\n");
+    }
+    check_line(list, number, line, pack, certificate)
 }
 
 // Checks what was taken from a list. Of a line that is too long only the first part is told of.
 fn check_taken(
     taken: Taken,
     begun: bool,
+    ends: u8,
+    list: &[u8],
+    number: u64,
     line: &[u8],
     pack: &mut [u8],
     certificate: &mut [u8],
-) -> Told {
+) -> Told
+    ensures { λ r. ⌜ Told-once begun taken r ⌝ }
+{
     if begun {
         return Told::Nothing;
     }
     match taken {
-        Taken::Line => check_line(line, pack, certificate),
-        Taken::Part => tell_line(line, b": Line too long\n"),
+        Taken::Line => check_line(list, number, line, pack, certificate),
+        Taken::Unended => check_unended(ends, list, number, line, pack, certificate),
+        Taken::Part => tell_line(list, number, line, b": Line too long\n"),
         Taken::End => Told::Nothing,
         Taken::Failed => Told::Nothing,
     }
@@ -273,14 +318,15 @@ fn conclude_list(t: Tally, name: &[u8]) -> Ended
     conclude(t)
 }
 
-// The end of a run over a list that could not be read to its end: what was checked so far is counted.
+// The end of a run over a list that could not be read to its end: where lines were told, it is told and counted beside them, so that
+// they do not look whole.
 fn break_off(t: Tally, name: &[u8]) -> Ended
-    requires { ⌜ total t ≤ greatest ⌝ }
+    requires { ⌜ total t < greatest ⌝ }
     ensures { λ r. ⌜ r ≡ Unjudged ⌝ }
 {
     names::fail(name);
     if 0 < all(t) {
-        conclude(t);
+        conclude(counted(t, tell_unread(name)));
     }
     Ended::Unjudged
 }
@@ -314,7 +360,17 @@ fn check_lines(
             return break_off(t, name);
         }
         let bytes = next.bytes;
-        let told = check_taken(what, begun, &line[..bytes], pack, certificate);
+        let number = all(t) + 1;
+        let told = check_taken(
+            what,
+            begun,
+            ends,
+            name,
+            number,
+            &line[..bytes],
+            pack,
+            certificate,
+        );
         if let Told::Lost = told {
             return Ended::Unjudged;
         }

@@ -1,7 +1,7 @@
 -- `lists::refilled` meets its contract: what was read stands at the window's start.
 use native.Mathlib.Omega.{arith}
 use borrow.Author.Needs.{needs}
-use Rattle.files.proofs.Counting.{file-bytes}
+use Rattle.lists.proofs.Filling.{filled-within}
 use Rattle.lists.proofs.refilled.Statement.{statement}
 use Rattle.lists.proofs.refilled.Tie as tie
 
@@ -11,9 +11,15 @@ refilled-spec =
     (tie.spec
     (λ c. search needs)
     (λ c κs. search needs)
+    (λ c κs. search needs)
     (λ c. search needs)
-    (λ c. search needs)
-    (λ c. search needs)
-    (λ c. record { start-kept = λ h. absurd (omega (arith, h)); end-kept = λ h. absurd (omega (arith, h)); window-kept = λ h. absurd (omega (arith, h)); ordered = omega arith; within = file-bytes _ _ _ (c .before .before .before .before .before .read-once .ensures) (c .before .n .given .1) .0 })
-    (λ c. search needs)
-    (λ c. record { start-kept = λ h. absurd (omega (arith, h)); end-kept = λ h. absurd (omega (arith, h)); window-kept = λ h. absurd (omega (arith, h)); ordered = omega arith; within = omega arith }))
+    (λ c.
+    let read = c .before .before .before .read-once in
+    let f = filled-within (read .result) (c .filled .result) (read .last .1 .0) (c .filled .ensures) (read .ensures) in
+    record {
+      ordered = f .0;
+      within = f .1;
+      start-kept = λ h. absurd (omega (arith, h));
+      end-kept = λ h. absurd (omega (arith, h));
+      window-kept = λ h. absurd (omega (arith, h));
+    }))
