@@ -1,2 +1,2 @@
--- How answers are counted.
+-- How answers are told and counted.
 pub mod Counting

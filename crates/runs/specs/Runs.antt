@@ -74,7 +74,7 @@ abbrev pub All-counted : (n : ℕ) → Run → Type 0
 All-counted n (Whole t) = total t ≡ n
 All-counted n Broken = Unit {0}
 
--- and the run ends as its counts say; one that was broken off has judged nothing
+-- a run over arguments ends as its counts say; one that was broken off has judged nothing
 abbrev pub Run-ends : Run → Ended → Type 0
 Run-ends (Whole t) e = Concluded t e
 Run-ends Broken e = e ≡ Unjudged

@@ -325,9 +325,14 @@ fn break_off(t: Tally, name: &[u8]) -> Ended
     ensures { λ r. ⌜ r ≡ Unjudged ⌝ }
 {
     names::fail(name);
-    if 0 < all(t) {
-        conclude(counted(t, tell_unread(name)));
+    if all(t) == 0 {
+        return Ended::Unjudged;
     }
+    let told = tell_unread(name);
+    if let Told::Lost = told {
+        return Ended::Unjudged;
+    }
+    conclude(counted(t, told));
     Ended::Unjudged
 }
 
