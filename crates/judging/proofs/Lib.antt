@@ -12,6 +12,8 @@ pub mod Components
 pub mod Shows
 -- a judge that misses no arc and no rule: what it accepts terminates
 pub mod Judged
--- document 01's judge is such a one
+-- the documents' judge is such a one
 pub mod Plain
+-- and accepts whatever document 01's arcs let pass
+pub mod Fewer
 pub mod Checking

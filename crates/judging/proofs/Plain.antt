@@ -1,4 +1,4 @@
--- Document 01's judge is sound under every strategy: so what the check accepts terminates. And its rules are small.
+-- The documents' judge is sound under every strategy: so what the check accepts terminates. And its rules are small.
 use mathlib.Core.Path.{_≡_}
 use mathlib.Core.List.{List}
 use Rattle.rewriting.specs.Terms.{Tree, System, no-rule, rule}
@@ -6,7 +6,7 @@ use Rattle.rewriting.specs.Steps.{Strategy, Root-step, Step, Steps}
 use Rattle.rewriting.specs.Systems.{Good}
 use Rattle.rewriting.specs.Chains.{Terminating, Chains-terminating}
 use Rattle.rewriting.proofs.Relations.{steps-by, in-context-map}
-use Rattle.pairs.proofs.ArcsEnough.{arcs-enough}
+use Rattle.pairs.proofs.Unifying.{arcs-enough}
 use Rattle.polynomials.proofs.Lists.{mem-at}
 use Rattle.polynomials.proofs.Small.{rules-small}
 use Rattle.polynomials.proofs.Weighed.{by-rules}

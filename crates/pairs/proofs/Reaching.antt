@@ -1,4 +1,4 @@
--- The tests `may-reach` and `arc` decide document 01's sentences on what may become what, and on arcs.
+-- The tests `may-reach` and `reach-arc` decide document 01's sentences on what may become what, and on arcs.
 use mathlib.Core.Path.{_≡_, refl}
 use mathlib.Core.Bool.{true, _&&_, false≢true}
 use mathlib.Core.Logic.{⊎-elim}
@@ -8,14 +8,14 @@ use borrow.Author.Tests.{eqb-true, eq-eqb}
 use Rattle.rewriting.specs.Terms.{Tree, var, app, nil, cons, System}
 use Rattle.rewriting.specs.Pairs.{Pair, pair-left, pair-right, same-root, arguments, defined}
 use Rattle.rewriting.proofs.Basics.{and-left, and-right, and-both, or-cases, or-left, or-right}
-use Rattle.pairs.specs.Arcs.{may-reach, arc, Reaches, from-variable, to-variable, from-defined, same-symbol, no-arguments, each-argument}
+use Rattle.pairs.specs.Arcs.{may-meet, may-reach, reach-arc, Reaches, from-variable, to-variable, from-defined, same-symbol, no-arguments, each-argument}
 
 module _ (p : System) where
   equal-symbols : (f g : ℕ) {ts us : Tree} → f ≡ g → Reaches p ts us → Reaches p (app f ts) (app g us)
   equal-symbols f g {ts} {us} e r = rw (← e) (same-symbol f ts us r)
 
   may-reach-only : (u v : Tree) → may-reach p u v ≡ true → Reaches p u v
-  unfolding may-reach
+  unfolding may-meet
   may-reach-only (var x) v h = from-variable x v
   may-reach-only (app f ts) (var y) h = to-variable _ y
   may-reach-only (app f ts) (app g us) h =
@@ -35,21 +35,21 @@ module _ (p : System) where
       each-argument t ts u us (may-reach-only t u (and-left (may-reach p t u) _ h)) (may-reach-only ts us (and-right (may-reach p t u) _ h))
 
   reach-variable : (u : Tree) (y : ℕ) → may-reach p u (var y) ≡ true
-  unfolding may-reach
+  unfolding may-meet
   reach-variable (var x) y = refl
   reach-variable (app f ts) y = refl
   reach-variable nil y = refl
   reach-variable (cons t ts) y = refl
 
   reach-from-defined : (f : ℕ) (ts v : Tree) → defined p f ≡ true → may-reach p (app f ts) v ≡ true
-  unfolding may-reach
+  unfolding may-meet
   reach-from-defined f ts (var y) d = refl
   reach-from-defined f ts (app g us) d = or-left _ d
   reach-from-defined f ts nil d = d
   reach-from-defined f ts (cons u us) d = d
 
   may-reach-all : {u v : Tree} → Reaches p u v → may-reach p u v ≡ true
-  unfolding may-reach
+  unfolding may-meet
   may-reach-all (from-variable x v) = refl
   may-reach-all (to-variable u y) = reach-variable u y
   may-reach-all (from-defined f ts v d) = reach-from-defined f ts v d
@@ -61,11 +61,11 @@ module _ (p : System) where
   pub reaches : (u v : Tree) → (may-reach p u v ≡ true → Reaches p u v) × (Reaches p u v → may-reach p u v ≡ true)
   reaches u v = (may-reach-only u v, may-reach-all)
 
-  -- an arc runs exactly if the roots are the same and the arguments may become the arguments
-  pub arcs-exactly : (q r : Pair) →
-      (arc p q r ≡ true → (same-root (pair-right p q) (pair-left p r) ≡ true) × Reaches p (arguments (pair-right p q)) (arguments (pair-left p r)))
-      × ((same-root (pair-right p q) (pair-left p r) ≡ true) × Reaches p (arguments (pair-right p q)) (arguments (pair-left p r)) → arc p q r ≡ true)
-  unfolding arc
-  arcs-exactly q r =
+  -- document 01's arc runs exactly if the roots are the same and the arguments may become the arguments
+  pub reach-arcs-exactly : (q r : Pair) →
+      (reach-arc p q r ≡ true → (same-root (pair-right p q) (pair-left p r) ≡ true) × Reaches p (arguments (pair-right p q)) (arguments (pair-left p r)))
+      × ((same-root (pair-right p q) (pair-left p r) ≡ true) × Reaches p (arguments (pair-right p q)) (arguments (pair-left p r)) → reach-arc p q r ≡ true)
+  unfolding reach-arc
+  reach-arcs-exactly q r =
       let roots = same-root (pair-right p q) (pair-left p r) in
       (λ h. (and-left roots _ h, may-reach-only _ _ (and-right roots _ h)), λ h. and-both (h .0) (may-reach-all (h .1)))

@@ -29,8 +29,8 @@ use Rattle.packs.proofs.Refusals as pack-refusals
 use Rattle.pairs.specs.Listing.{a-pair, pair-record}
 use Rattle.pairs.specs.Answers.{listing, buffer-after, list-value, arc-question}
 use Rattle.pairs.proofs.Listed.{pairs-listed, listing-rises}
-use Rattle.pairs.proofs.Reaching.{arcs-exactly}
-use Rattle.pairs.proofs.ArcsEnough.{arcs-enough}
+use Rattle.pairs.proofs.Reaching.{reach-arcs-exactly}
+use Rattle.pairs.proofs.Unifying.{arcs-exactly, arcs-denied, capped-fresh, fewer-arcs, arcs-enough}
 use Rattle.pairs.proofs.Ranges.{listing-range, arc-range}
 use Rattle.pairs.proofs.Answering as answering
 use Rattle.polynomials.proofs.Order.{least-means, greater-means}
@@ -54,6 +54,7 @@ use Rattle.judging.proofs.Judged.{all-in-time}
 use Rattle.judging.proofs.Shows.{judged-8, judged-9, judged-0, judged-10-to-17}
 use Rattle.judging.proofs.Checking.{check-cut, check-of-read, pack-first, then-certificate, check-range, cut-exactly, judged-as}
 use Rattle.judging.proofs.Plain.{plain-small, judged-plain-terminates}
+use Rattle.judging.proofs.Fewer.{still-accepted}
 use Rattle.texts.specs.TextReading.{text-pack, pack-after, pack-value}
 use Rattle.texts.proofs.Answering as texts
 use Rattle.texts.proofs.Sizes.{pack-small}
@@ -62,7 +63,7 @@ use Rattle.texts.proofs.ReadBack.{text-read-back}
 use Rattle.promises.specs.Promises
 use Rattle.promises.proofs.Numbers.{counted}
 use Rattle.promises.proofs.Refusing.{pack-cut, only-cut, pack-refuses, failing-refused, certificate-cut, only-certificate-cut, certificate-refuses, failing-certificate, pack-given, certificate-given, either-refuses, either-given, only-pack, only-certificate}
-use Rattle.promises.proofs.Starred.{starred-cases, several-cases, other-numbers, list-short, list-fills, division-arcs, division-sizes, division-pairs, one-word}
+use Rattle.promises.proofs.Starred.{starred-cases, several-cases, unifier-cases, arc-vanishes, other-numbers, list-short, list-fills, division-arcs, division-sizes, division-pairs, one-word}
 use Rattle.promises.proofs.Texts.{division-given, division-long, division-accepted, text-answers}
 use Rattle.promises.proofs.Loop.{loop-checked}
 use Rattle.promises.proofs.Largest.{largest-read, largest-long, longest-read, longest-long, dense-read, dense-long, brink-accepted, brink-heavy}
@@ -417,7 +418,31 @@ defined-exactly-kept p f = (defined-exactly p f .0, λ i h k. left-defines p f i
 
 pub arcs-exactly-kept : Promises.Arcs-exactly
 unfolding Promises.Arcs-exactly
-arcs-exactly-kept p q r = arcs-exactly p q r
+arcs-exactly-kept p q r n good x y below = arcs-exactly p good q r x y n below
+
+pub sixteen-apart : Promises.Sixteen-apart
+unfolding Promises.Sixteen-apart
+sixteen-apart p r good y = pair-left-small p r y good
+
+pub arcs-denied-kept : Promises.Arcs-denied
+unfolding Promises.Arcs-denied
+arcs-denied-kept p q r n s good x y none e = arcs-denied p good q r x y n s none e
+
+pub capped-fresh-kept : Promises.Capped-fresh
+unfolding Promises.Capped-fresh
+capped-fresh-kept p n t = capped-fresh p n t
+
+pub reach-arcs-exactly-kept : Promises.Reach-arcs-exactly
+unfolding Promises.Reach-arcs-exactly
+reach-arcs-exactly-kept p q r = reach-arcs-exactly p q r
+
+pub fewer-arcs-kept : Promises.Fewer-arcs
+unfolding Promises.Fewer-arcs
+fewer-arcs-kept p q r h = fewer-arcs p q r h
+
+pub still-accepted-kept : Promises.Still-accepted
+unfolding Promises.Still-accepted
+still-accepted-kept bs ds p cs e f h = check-of-read bs ds p cs e f ∙ still-accepted p cs h
 
 pub arcs-enough-kept : Promises.Arcs-enough
 unfolding Promises.Arcs-enough
@@ -521,6 +546,14 @@ texts-back bs t s g r = text-read-back t g (s .bare) (r .no-5) (r .no-6)
 pub starred-cases-kept : Promises.Starred-cases
 unfolding Promises.Starred-cases
 starred-cases-kept = starred-cases
+
+pub unifier-cases-kept : Promises.Unifier-cases
+unfolding Promises.Unifier-cases
+unifier-cases-kept = unifier-cases
+
+pub arc-vanishes-kept : Promises.Arc-vanishes
+unfolding Promises.Arc-vanishes
+arc-vanishes-kept = arc-vanishes
 
 pub several-cases-kept : Promises.Several-cases
 unfolding Promises.Several-cases

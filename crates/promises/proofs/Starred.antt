@@ -7,12 +7,13 @@ use lib.ListN.{length}
 use Rattle.records.specs.Outcomes.{refused, passed}
 use Rattle.records.specs.Records.{number-at, word-at, fields}
 use Rattle.pairs.specs.Listing.{a-pair, pairs}
+use Rattle.pairs.specs.Arcs.{arc, reach-arc}
 use Rattle.pairs.specs.Answers.{listing, arc-question}
 use Rattle.packs.specs.Encoding.{pack-bytes}
 use Rattle.certificates.specs.Encoding.{certificate-bytes}
 use Rattle.judging.specs.Check.{check}
 use Rattle.promises.proofs.Computed.{computed}
-use Rattle.promises.specs.Examples.{Case, starred, several, Files, others, division, division-shown, shrinking, shrinking-pairs}
+use Rattle.promises.specs.Examples.{Case, starred, several, by-unifier, same-twice, Files, others, division, division-shown, shrinking, shrinking-pairs}
 
 abbrev number-given : Case → ℕ
 number-given c = check (pack-bytes (c .pack)) (certificate-bytes (c .certificate))
@@ -27,6 +28,15 @@ starred-cases = refl
 pub several-cases : map number-given several ≡ map number-due several
 unfolding computed
 several-cases = refl
+
+pub unifier-cases : map number-given by-unifier ≡ map number-due by-unifier
+unfolding computed
+unifier-cases = refl
+
+-- document 01's arc runs where none does now
+pub arc-vanishes : (reach-arc same-twice (a-pair 0 0) (a-pair 0 0) ≡ true) × (arc same-twice (a-pair 0 0) (a-pair 0 0) ≡ false)
+unfolding computed
+arc-vanishes = (refl, refl)
 
 -- the numbers that none of them has
 abbrev number-of-files : Files → ℕ

@@ -156,6 +156,34 @@ idle = record { weights = []; marked = [] }
 unfoldable pub lexicographic-under : List Weighting → List Component
 lexicographic-under ws = record { pairs = a-pair 0 0 ∷ a-pair 1 0 ∷ []; weightings = ws } ∷ []
 
+-- f(x,x) → f(a,b): 0 f, 1 a, 2 b
+unfoldable pub same-twice : System
+same-twice = system (2 ∷ 0 ∷ 0 ∷ []) ((app₂ 0 (var 0) (var 0) ⟶ app₂ 0 (constant 1) (constant 2)) ∷ [])
+
+-- f(x,x,x) → f(g(h(a)),g(a),g(b)), h(x) → x: 0 f, 1 g, 2 h, 3 a, 4 b. Of what x meets only the second and the third differ
+unfoldable pub last-two : System
+last-two =
+    system (3 ∷ 1 ∷ 1 ∷ 0 ∷ 0 ∷ [])
+    ((app₃ 0 (var 0) (var 0) (var 0) ⟶ app₃ 0 (app₁ 1 (app₁ 2 (constant 3))) (app₁ 1 (constant 3)) (app₁ 1 (constant 4)))
+    ∷ (app₁ 2 (var 0) ⟶ var 0)
+    ∷ [])
+
+-- f(x,x) → f(h(a),b), h(x) → x: 0 f, 1 h, 2 a, 3 b. What h is applied to does not matter
+unfoldable pub under-defined : System
+under-defined =
+    system (2 ∷ 1 ∷ 0 ∷ 0 ∷ [])
+    ((app₂ 0 (var 0) (var 0) ⟶ app₂ 0 (app₁ 1 (constant 2)) (constant 3)) ∷ (app₁ 1 (var 0) ⟶ var 0) ∷ [])
+
+-- f(a,b,x) → f(x,x,x), g(x,y) → x, g(x,y) → y: 0 f, 1 a, 2 b, 3 g. Toyama's, which does not terminate (Arts and Giesl, before
+-- Definition 18): the variables of the right side are three
+unfoldable pub toyama : System
+toyama =
+    system (3 ∷ 0 ∷ 0 ∷ 2 ∷ [])
+    ((app₃ 0 (constant 1) (constant 2) (var 0) ⟶ app₃ 0 (var 0) (var 0) (var 0))
+    ∷ (app₂ 3 (var 0) (var 1) ⟶ var 0)
+    ∷ (app₂ 3 (var 0) (var 1) ⟶ var 1)
+    ∷ [])
+
 -- THE STARRED CASES but one, a → a under any weighting: pack, certificate, and document 01's number, 0 being accepted
 pub record Case : Type 0 where
   pub pack : System
@@ -193,6 +221,15 @@ several =
     ∷ gives lexicographic (lexicographic-under (by-argument 1 ∷ idle ∷ [])) 13
     ∷ gives lexicographic (lexicographic-under (by-argument 1 ∷ great ∷ [])) 0
     ∷ gives lexicographic (lexicographic-under (great ∷ by-argument 1 ∷ [])) 11
+    ∷ []
+
+-- THE CASES of arcs that need a unifier
+unfoldable pub by-unifier : List Case
+by-unifier =
+    gives same-twice (unweighted (a-pair 0 0) ∷ []) 0
+    ∷ gives last-two (unweighted (a-pair 0 0) ∷ unweighted (a-pair 0 2) ∷ []) 0
+    ∷ gives under-defined (unweighted (a-pair 0 0) ∷ unweighted (a-pair 0 1) ∷ []) 10
+    ∷ gives toyama (unweighted (a-pair 0 0) ∷ []) 10
     ∷ []
 
 -- A PAIR OF FILES for each number from 1 to 7, for 13, and for 2 by L

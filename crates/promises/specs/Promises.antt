@@ -10,7 +10,7 @@ use Rattle.rewriting.specs.Terms.{Tree, Rule, System, rule, is-list, is-term, S
 use Rattle.rewriting.specs.Steps.{full, Step}
 use Rattle.rewriting.specs.Contexts.{Context, plugged, Contracts}
 use Rattle.rewriting.specs.Termination.{SN}
-use Rattle.rewriting.specs.Pairs.{Pair, is-pair, pair-left, pair-right, same-root, has-root, arguments, defined}
+use Rattle.rewriting.specs.Pairs.{Pair, subterms, is-pair, pair-left, pair-right, same-root, has-root, arguments, defined}
 use Rattle.rewriting.specs.Chains.{Link, Valid, Next, Terminating, Chains-terminating}
 use Rattle.rewriting.specs.Systems.{Good, member, variables-below, is-app, variables, all-in}
 use Rattle.records.specs.declared.Record.{Record}
@@ -23,7 +23,8 @@ use Rattle.packs.specs.PackReading.{pack-refusal, pack-in, read-pack, pack-from
 use Rattle.packs.specs.Encoding.{pack-bytes, Good-pack}
 use Rattle.packs.specs.PackFailures.{Pack-fails}
 use Rattle.pairs.specs.Listing.{a-pair, pairs, count-pair}
-use Rattle.pairs.specs.Arcs.{arc, Reaches}
+use Rattle.pairs.specs.Unifiers.{capped, capped-below, Unifiable, Rising-within}
+use Rattle.pairs.specs.Arcs.{arc, reach-arc, Reaches}
 use Rattle.pairs.specs.Answers.{listing, buffer-after, list-value, arc-question}
 use Rattle.polynomials.specs.Polynomials.{Polynomial, Weight, Weighting, polynomial-of, marked-polynomial, at-least, greater}
 use Rattle.polynomials.specs.Values.{Valuation, term-values, marked-value, value-of}
@@ -34,8 +35,8 @@ use Rattle.certificates.specs.CertificateReading as certificates
 use Rattle.certificates.specs.CertificateReading.{read-certificate, cert-from, cert-steps}
 use Rattle.certificates.specs.Encoding.{certificate-bytes, Good-certificate}
 use Rattle.certificates.specs.CertificateFailures.{Certificate-fails}
-use Rattle.judging.specs.Judges.{plain}
-use Rattle.judging.specs.Judge.{call}
+use Rattle.judging.specs.Judges.{plain, reaching}
+use Rattle.judging.specs.Judge.{call, judged}
 use Rattle.judging.specs.Check.{check}
 use Rattle.judging.specs.Shown.{nth, nth-pair, Each-once, No-back-arc, Pair-falls, First-failure, Shows}
 use Rattle.texts.specs.Spelling.{Text}
@@ -44,7 +45,7 @@ use Rattle.texts.specs.TextReading.{text-pack, pack-after, pack-value}
 use Rattle.texts.specs.GoodTexts.{Spells, Good-text}
 use Rattle.promises.specs.Limits.{largest-pack, longest-certificate, dense-pack, dense-certificate, brink, brink-with}
 use Rattle.promises.specs.TextExamples.{division-text, division-read, division-read-shown, text-cases}
-use Rattle.promises.specs.Examples.{starred, several, others, division, division-shown, loop, loop-under, constant, app₂}
+use Rattle.promises.specs.Examples.{starred, several, by-unifier, others, division, same-twice, division-shown, loop, loop-under, constant, app₂}
 
 -- THE THIRD DEMAND
 -- For every pack that passes 1 to 6, all derivations from all terms end exactly when all chains of its pairs end.
@@ -410,12 +411,42 @@ Defined-exactly =
     (p : System) (f : ℕ) → (defined p f ≡ true → (i : ℕ) × (i < length (p .rules)) × (has-root f (rule p i .left) ≡ true))
     × ((i : ℕ) → i < length (p .rules) → has-root f (rule p i .left) ≡ true → defined p f ≡ true)
 
--- The arc question says yes exactly on document 01's arcs.
+-- An arc runs exactly if the first pair's right side, capped below its root, and the other's left side have a unifier. The fresh
+-- variables are numbered from any n above the left side's, so that the two are apart; 16 will do.
 unfoldable pub Arcs-exactly : Type 0
 Arcs-exactly =
+    (p : System) (q r : Pair) (n : ℕ) → Good p → is-pair p q ≡ true → is-pair p r ≡ true → variables-below n (pair-left p r) ≡ true →
+    (arc p q r ≡ true → Unifiable p (capped-below p n (pair-right p q)) (pair-left p r))
+    × (Unifiable p (capped-below p n (pair-right p q)) (pair-left p r) → arc p q r ≡ true)
+
+unfoldable pub Sixteen-apart : Type 0
+Sixteen-apart = (p : System) (r : Pair) → Good p → is-pair p r ≡ true → variables-below 16 (pair-left p r) ≡ true
+
+-- Where none runs, no substitution makes the two equal, whatever it puts for the variables.
+unfoldable pub Arcs-denied : Type 0
+Arcs-denied =
+    (p : System) (q r : Pair) (n : ℕ) (s : Substitution) → Good p → is-pair p q ≡ true → is-pair p r ≡ true → arc p q r ≡ false →
+    substituted s (capped-below p n (pair-right p q)) ≡ substituted s (pair-left p r) → ⊥
+
+-- The fresh variables are fresh: none is below n, and no two are the same.
+unfoldable pub Capped-fresh : Type 0
+Capped-fresh = (p : System) (n : ℕ) (t : Tree) → Rising-within n (n + length (subterms t)) (variables (capped p n t))
+
+-- Document 01's arcs are what its sentence says, and N4's are among them.
+unfoldable pub Reach-arcs-exactly : Type 0
+Reach-arcs-exactly =
     (p : System) (q r : Pair) →
-    (arc p q r ≡ true → (same-root (pair-right p q) (pair-left p r) ≡ true) × Reaches p (arguments (pair-right p q)) (arguments (pair-left p r)))
-    × ((same-root (pair-right p q) (pair-left p r) ≡ true) × Reaches p (arguments (pair-right p q)) (arguments (pair-left p r)) → arc p q r ≡ true)
+    (reach-arc p q r ≡ true → (same-root (pair-right p q) (pair-left p r) ≡ true) × Reaches p (arguments (pair-right p q)) (arguments (pair-left p r)))
+    × ((same-root (pair-right p q) (pair-left p r) ≡ true) × Reaches p (arguments (pair-right p q)) (arguments (pair-left p r)) → reach-arc p q r ≡ true)
+
+unfoldable pub Fewer-arcs : Type 0
+Fewer-arcs = (p : System) (q r : Pair) → arc p q r ≡ true → reach-arc p q r ≡ true
+
+-- What is accepted by document 01's arcs is accepted.
+unfoldable pub Still-accepted : Type 0
+Still-accepted =
+    (bs ds : List ℕ) (p : System) (cs : List Component) → read-pack bs ≡ passed p → read-certificate p ds ≡ passed cs →
+    judged p (reaching p) cs ≡ 0 → check bs ds ≡ 0
 
 -- Arcs miss no next of a chain.
 unfoldable pub Arcs-enough : Type 0
@@ -559,6 +590,13 @@ Starred-cases = map (λ c. check (pack-bytes (c .pack)) (certificate-bytes (c .c
 -- A component with several weightings: accepted, 13 and 17.
 unfoldable pub Several-cases : Type 0
 Several-cases = map (λ c. check (pack-bytes (c .pack)) (certificate-bytes (c .certificate))) several ≡ map (λ c. c .number) several
+
+-- Arcs that need a unifier: f(x, x) → f(a, b) is accepted without weights, though document 01's arc runs there.
+unfoldable pub Unifier-cases : Type 0
+Unifier-cases = map (λ c. check (pack-bytes (c .pack)) (certificate-bytes (c .certificate))) by-unifier ≡ map (λ c. c .number) by-unifier
+
+unfoldable pub Arc-vanishes : Type 0
+Arc-vanishes = (reach-arc same-twice (a-pair 0 0) (a-pair 0 0) ≡ true) × (arc same-twice (a-pair 0 0) (a-pair 0 0) ≡ false)
 
 -- Each number from 1 to 7, 13, 2 by L, and 14: a list of 23 bytes is short for Division, and one of 24 is not.
 unfoldable pub Other-numbers : Type 0
