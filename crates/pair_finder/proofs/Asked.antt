@@ -7,10 +7,11 @@ use Prim.Native.Nat.{ℕ, _+_, _*_, _≤_, _<_}
 use native.Mathlib.Omega.{arith}
 use lib.Dec.{eqb}
 use lib.ListN.{length, getD, take}
-use borrow.Author.Tests.{eq-eqb, ne-eqb}
+use borrow.Author.Tests.{eqb-true, eq-eqb, ne-eqb}
 use Rattle.rewriting.specs.Terms.{Tree, var, app, nil, cons, System, is-term}
 use Rattle.rewriting.specs.Pairs.{pair-left, pair-right, same-root, has-root, arguments, defined, defined-root}
 use Rattle.rewriting.specs.Systems.{is-app}
+use Rattle.rewriting.proofs.Basics.{by-test, not-both, and-left, and-right}
 use Rattle.rewriting.proofs.Trees.{term-well}
 use Rattle.rewriting.proofs.Pairs.{pair-rule, pair-place, pair-defined, pair-right-term}
 use Rattle.terms.specs.Sides.{symbol, flat}
@@ -18,8 +19,9 @@ use Rattle.terms.specs.Kept.{code, Kept, Term-at}
 use Rattle.terms.proofs.Parsing.{well-app}
 use Rattle.terms.proofs.Rests.{kept-first, kept-others}
 use Rattle.pairs.specs.Listing.{a-pair}
-use Rattle.pairs.specs.Arcs.{may-reach, arc}
-use Rattle.pair_finder.specs.Walking.{Two-lists, Walkable, Arc-asked}
+use Rattle.pairs.specs.Arcs.{may-reach, meetings, all-agree, unifies, arc, reach-arc}
+use Rattle.pairs.proofs.Unifying.{fewer-arcs}
+use Rattle.pair_finder.specs.Walking.{Two-lists, Walkable, Reaching, Arc-asked, Arc-reached}
 use Rattle.pair_finder.proofs.Walks.{same-arity}
 use Rattle.pair_finder.proofs.FromStore.{stored-rule, subterm-at}
 
@@ -130,9 +132,17 @@ module _ (ar ss ns ms : List ℕ) (right other : ℕ) (a : Arc-asked ar ss ns ms
   roots-asked = roots-by-bytes (a .kept .system) ns ns right (getD ss (2 * other) 0) (right-kept .is) (left-kept .is) (right-kept .kept) (left-kept .kept)
 
   -- unlike first bytes are unlike roots
+  pub no-reach : (getD ns right 0 ≡ getD ns (getD ss (2 * other) 0) 0 → ⊥) → reach-arc (a .kept .system) (a .pair) (a-pair other 0) ≡ false
+  unfolding reach-arc
+  no-reach d = rw (roots-asked, ne-eqb (getD ns (getD ss (2 * other) 0) 0) (getD ns right 0) (λ e. d (sym e)))
+
+  -- no arc runs where document 01's does not
+  pub not-reached : reach-arc (a .kept .system) (a .pair) (a-pair other 0) ≡ false → arc (a .kept .system) (a .pair) (a-pair other 0) ≡ false
+  not-reached f =
+      by-test (arc (a .kept .system) (a .pair) (a-pair other 0)) (λ h. absurd (not-both _ (fewer-arcs (a .kept .system) (a .pair) (a-pair other 0) h) f)) (λ d. d)
+
   pub no-arc : (getD ns right 0 ≡ getD ns (getD ss (2 * other) 0) 0 → ⊥) → arc (a .kept .system) (a .pair) (a-pair other 0) ≡ false
-  unfolding arc
-  no-arc d = rw (roots-asked, ne-eqb (getD ns (getD ss (2 * other) 0) 0) (getD ns right 0) (λ e. d (sym e)))
+  no-arc d = not-reached (no-reach d)
 
   -- like ones leave it to the arguments
   module _ (e : getD ns right 0 ≡ getD ns (getD ss (2 * other) 0) 0) (end : ℕ) (ends : (s : Term-at ar ns right) → end ≡ right + length (flat (s .term))) where
@@ -154,6 +164,34 @@ module _ (ar ss ns ms : List ℕ) (right other : ℕ) (a : Arc-asked ar ss ns ms
         }
 
     pub arc-walked : (r : Bool) → ((w : Walkable ar ms ns ns (right + 1) end (getD ss (2 * other) 0 + 1)) → r ≡ may-reach (w .system) (w .first) (w .other)) →
-        r ≡ arc (a .kept .system) (a .pair) (a-pair other 0)
-    unfolding arc to-walk
+        r ≡ reach-arc (a .kept .system) (a .pair) (a-pair other 0)
+    unfolding reach-arc to-walk
     arc-walked r h = rw (roots-asked, eq-eqb (getD ns (getD ss (2 * other) 0) 0) (getD ns right 0) (sym e)) (h to-walk)
+
+-- WHERE DOCUMENT 01'S ARC RUNS the arguments may reach each other, and what their variables meet decides
+
+module _ (ar ss ns ms : List ℕ) (right end other : ℕ) (a : Arc-reached ar ss ns ms right end other) where
+  abbrev asked : Arc-asked ar ss ns ms right other
+  asked = a .ended .asked
+
+  abbrev system : System
+  system = asked .kept .system
+
+  abbrev reached-roots : Bool
+  reached-roots = same-root (pair-right system (asked .pair)) (pair-left system (a-pair other 0))
+
+  roots-same : reached-roots ≡ true
+  unfolding reach-arc
+  roots-same = and-left reached-roots _ (a .reached)
+
+  pub to-agree : Reaching ar ms ns (right + 1) end (getD ss (2 * other) 0 + 1)
+  unfolding reach-arc to-walk
+  to-agree =
+      let e = eqb-true (getD ns (getD ss (2 * other) 0) 0) (getD ns right 0) (sym (roots-asked ar ss ns ms right other asked) ∙ roots-same) in
+      record { walk = to-walk ar ss ns ms right other asked (sym e) end (a .ended .ends); reaches = and-right reached-roots _ (a .reached) }
+
+  pub arc-agreed : (r : Bool) →
+      ((w : Reaching ar ms ns (right + 1) end (getD ss (2 * other) 0 + 1)) → r ≡ all-agree (w .walk .system) (meetings (w .walk .system) (w .walk .first) (w .walk .other))) →
+      r ≡ arc system (asked .pair) (a-pair other 0)
+  unfolding arc unifies to-walk to-agree
+  arc-agreed r said = rw (roots-same, to-agree .reaches) (said to-agree)

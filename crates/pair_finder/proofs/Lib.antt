@@ -9,4 +9,7 @@ pub mod Subterms
 pub mod FromStore
 -- the arc question: two lists walked in step, and where the walk starts
 pub mod Walks
+pub mod Comparing
+pub mod Gathering
+pub mod Agreeing
 pub mod Asked

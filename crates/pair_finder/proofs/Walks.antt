@@ -1,4 +1,4 @@
--- A walk over two argument lists of one length in step: what is still to be compared, and what each turn leaves of it.
+-- A walk over two argument lists of one length in step: what is still to be walked, and what each turn leaves of it.
 use mathlib.Core.Path.{_≡_, refl, sym, ap, _∙_}
 use mathlib.Core.Bool.{Bool, true, false, _&&_, cond, and-assoc, false≢true}
 use mathlib.Core.List.{List, [], _++_}
@@ -22,7 +22,7 @@ use Rattle.pair_finder.proofs.Subterms.{symbol-defined}
 
 -- TWO LISTS OF ONE LENGTH
 
-data In-step : Tree → Tree → Type 0 where
+pub data In-step : Tree → Tree → Type 0 where
   both-nil : In-step nil nil
   both-cons : (t ts u us : Tree) → In-step ts us → In-step (cons t ts) (cons u us)
 
@@ -42,12 +42,6 @@ module _ (p : System) where
       let a = well-cons p t ts h in
       let b = well-cons p u us k in
       both-cons t ts u us (in-step ts us (a .1) (a .2) (b .1) (b .2) (omega arith))
-
-  -- lists one after another reach each other part by part
-  joined-reach : {ts us : Tree} → In-step ts us → (vs ws : Tree) → may-reach p (joined ts vs) (joined us ws) ≡ (may-reach p ts us && may-reach p vs ws)
-  unfolding joined may-reach
-  joined-reach both-nil vs ws = refl
-  joined-reach (both-cons t ts u us s) vs ws = rw (joined-reach s vs ws) (sym (and-assoc (may-reach p t u) (may-reach p ts us) (may-reach p vs ws)))
 
   -- one symbol has one number of arguments
   pub same-arity : (f : ℕ) (ts : Tree) (g : ℕ) (us : Tree) → well p (app f ts) ≡ true → well p (app g us) ≡ true → f ≡ g → width ts ≡ width us
@@ -90,47 +84,6 @@ module _ (p : System) (ar ms ns os : List ℕ) (i end k : ℕ) (t ts u us : Tree
         other-kept = kept-right os k (flat u) (flat us) (b .other-kept);
       }
 
--- both are applications, the first of a constructor
-data Applications (p : System) : Tree → Tree → Type 0 where
-  applications : (f : ℕ) (ts : Tree) (g : ℕ) (us : Tree) → defined p f ≡ false → Applications p (app f ts) (app g us)
-
-module _ (p : System) (ms ns os : List ℕ) (are : (f : ℕ) → f < 64 → getD ms f 0 ≡ cond (defined p f) 1 0) (few : length (p .arities) ≤ 64) (i k : ℕ) where
-  symbol-small : (f : ℕ) (ts : Tree) → well p (app f ts) ≡ true → f < 64
-  symbol-small f ts h = let l = well-app p f ts h .0 in omega arith
-
-  -- what the bytes say of a jump is so of the terms
-  jump-reaches : (t u : Tree) → is-term p t ≡ true → is-term p u ≡ true → Kept ns i (flat t) → Kept os k (flat u) →
-      jumps ms (getD ns i 0) (getD os k 0) ≡ true → may-reach p t u ≡ true
-  unfolding may-reach is-term is-list flat code jumps
-  jump-reaches (var v) u h g a b j = refl
-  jump-reaches (app f ts) (var w) h g a b j = refl
-  jump-reaches (app f ts) (app e us) h g a b j =
-      let l = symbol-small f ts h in
-      let m = symbol-small e us g in
-      or-left _
-      (rw (kept-first ns i (symbol f) (flat ts) a, kept-first os k (symbol e) (flat us) b, lt-leb 64 f l, lt-leb 64 e m, symbol-defined p ms are few f l) at j)
-  jump-reaches (app f ts) nil h g a b j = absurd (false≢true g)
-  jump-reaches (app f ts) (cons u us) h g a b j = absurd (false≢true g)
-  jump-reaches nil u h g a b j = absurd (false≢true h)
-  jump-reaches (cons t ts) u h g a b j = absurd (false≢true h)
-
-  no-jump : (t u : Tree) → is-term p t ≡ true → is-term p u ≡ true → Kept ns i (flat t) → Kept os k (flat u) →
-      jumps ms (getD ns i 0) (getD os k 0) ≡ false → Applications p t u
-  unfolding is-term is-list flat code jumps
-  no-jump (var v) u h g a b j =
-      let s : leb 64 (getD ns i 0) ≡ false = search ors in
-      absurd (omega (arith, leb-false 64 (getD ns i 0) s, kept-first ns i (variable v) [] a))
-  no-jump (app f ts) (var w) h g a b j =
-      let s : leb 64 (getD os k 0) ≡ false = search ors in
-      absurd (omega (arith, leb-false 64 (getD os k 0) s, kept-first os k (variable w) [] b))
-  no-jump (app f ts) (app e us) h g a b j =
-      let s : is-defined ms (getD ns i 0) ≡ false = search ors in
-      applications f ts e us (sym (symbol-defined p ms are few f (symbol-small f ts h)) ∙ (rw (kept-first ns i (symbol f) (flat ts) a) at s))
-  no-jump (app f ts) nil h g a b j = absurd (false≢true g)
-  no-jump (app f ts) (cons u us) h g a b j = absurd (false≢true g)
-  no-jump nil u h g a b j = absurd (false≢true h)
-  no-jump (cons t ts) u h g a b j = absurd (false≢true h)
-
 -- both are entered: their arguments come before the others
 module _ (p : System) (ar ms ns os : List ℕ) (i end k f : ℕ) (vs ts : Tree) (g : ℕ) (ws us : Tree)
     (b : Two-lists p ar ms ns os i end k (cons (app f vs) ts) (cons (app g ws) us)) where
@@ -170,120 +123,158 @@ module _ (p : System) (ar ms ns os : List ℕ) (i end k f : ℕ) (vs ts : Tree) 
         other-kept = rw (joined-flat p ws us (y .2) (y .3)) (kept-others os k (symbol g) (flat ws ++ flat us) (b .other-kept));
       }
 
-  -- where the first symbol is a constructor, the symbols decide
-  entered-reach : f ≡ g → defined p f ≡ false → may-reach p (cons (app f vs) ts) (cons (app g ws) us) ≡ may-reach p (joined vs ts) (joined ws us)
-  unfolding may-reach
-  entered-reach e d =
-      let x = well-app p f vs first-well in
-      let y = well-app p g ws other-well in
-      rw (d, eq-eqb f g e) (sym (joined-reach p (in-step p vs ws (x .2) (x .3) (y .2) (y .3) (same-arity p f vs g ws first-well other-well e)) ts us))
-
-  symbols-differ : (f ≡ g → ⊥) → defined p f ≡ false → may-reach p (cons (app f vs) ts) (cons (app g ws) us) ≡ false
-  unfolding may-reach
-  symbols-differ n d = rw (d, ne-eqb f g n)
-
 -- THE WALK
 
 two-in-step : {p : System} {ar ms ns os : List ℕ} {i end k : ℕ} {ts us : Tree} → Two-lists p ar ms ns os i end k ts us → In-step ts us
 two-in-step {p} {ts = ts} {us = us} b = in-step p ts us (b .list) (b .well-first) (b .other-list) (b .well-other) (b .as-many)
 
--- two lists are still to be compared, and their comparison is the answer
-pub record To-walk (p : System) (ar ms ns os : List ℕ) (end : ℕ) (answer : Bool) (i k : ℕ) : Type 0 where
-  pub firsts : Tree
-  pub others : Tree
-  pub lists : Two-lists p ar ms ns os i end k firsts others
-  pub same : answer ≡ may-reach p firsts others
+module _ (p : System) (ar ms ns os : List ℕ) (end : ℕ) (A : Tree → Tree → Type 0) (i k : ℕ) where
+  -- two lists are still to be walked, and A is known of them
+  pub record To-walk : Type 0 where
+    pub firsts : Tree
+    pub others : Tree
+    pub lists : Two-lists p ar ms ns os i end k firsts others
+    pub known : A firsts others
 
-module _ (p : System) (ar ms ns os : List ℕ) (end : ℕ) (answer : Bool) (i k : ℕ) where
   -- with the first of each at hand
-  data At-hand : Type 0 where
-    at-hand : (t ts u us : Tree) → Two-lists p ar ms ns os i end k (cons t ts) (cons u us) → answer ≡ may-reach p (cons t ts) (cons u us) → At-hand
+  pub record At-hand : Type 0 where
+    pub first : Tree
+    pub firsts : Tree
+    pub other : Tree
+    pub others : Tree
+    pub lists : Two-lists p ar ms ns os i end k (cons first firsts) (cons other others)
+    pub known : A (cons first firsts) (cons other others)
 
-  both-at-hand : To-walk p ar ms ns os end answer i k → i < end → At-hand
+  pub at-hand : To-walk → i < end → At-hand
   unfolding flat
-  both-at-hand w h = go (two-in-step (w .lists)) (w .lists) (w .same)
+  at-hand w h = go (two-in-step (w .lists)) (w .lists) (w .known)
     where
-      go : {ts us : Tree} → In-step ts us → Two-lists p ar ms ns os i end k ts us → answer ≡ may-reach p ts us → At-hand
+      go : {ts us : Tree} → In-step ts us → Two-lists p ar ms ns os i end k ts us → A ts us → At-hand
       go both-nil b e = absurd (omega (arith, b .first-ends))
-      go (both-cons t ts u us s) b e = at-hand t ts u us b e
+      go (both-cons t ts u us s) b e = record { first = t; firsts = ts; other = u; others = us; lists = b; known = e }
 
   -- nothing is left
-  pub walk-ends : To-walk p ar ms ns os end answer i k → end ≤ i → answer ≡ true
-  unfolding flat may-reach
-  walk-ends w h = go (two-in-step (w .lists)) (w .lists) (w .same)
+  pub walk-ends : To-walk → end ≤ i → A nil nil
+  unfolding flat
+  walk-ends w h = go (two-in-step (w .lists)) (w .lists) (w .known)
     where
-      go : {ts us : Tree} → In-step ts us → Two-lists p ar ms ns os i end k ts us → answer ≡ may-reach p ts us → answer ≡ true
+      go : {ts us : Tree} → In-step ts us → Two-lists p ar ms ns os i end k ts us → A ts us → A nil nil
       go both-nil b e = e
       go (both-cons t ts u us s) b e =
           let l = flat-positive t (term-not-list p t (first-term p ar ms ns os i end k t ts u us b)) in
           absurd (omega (arith, b .first-ends, length-append (flat t) (flat ts)))
 
-  -- a term is kept at each place
-  pub first-there : To-walk p ar ms ns os end answer i k → i < end → Term-at ar ns i
-  first-there w h = go (both-at-hand w h)
+  module _ (h : At-hand) where
+    -- a term is kept at each place
+    pub first-there : Term-at ar ns i
+    first-there = first-at p ar ms ns os i end k (h .first) (h .firsts) (h .other) (h .others) (h .lists)
+
+    pub other-there : Term-at ar os k
+    other-there = other-at p ar ms ns os i end k (h .first) (h .firsts) (h .other) (h .others) (h .lists)
+
+    pub first-is : is-term p (h .first) ≡ true
+    first-is = first-term p ar ms ns os i end k (h .first) (h .firsts) (h .other) (h .others) (h .lists)
+
+    pub first-kept : Kept ns i (flat (h .first))
+    unfolding first-at
+    first-kept = first-at p ar ms ns os i end k (h .first) (h .firsts) (h .other) (h .others) (h .lists) .kept
+
+    -- the lists after both
+    pub rest : (m n : ℕ) → ((s : Term-at ar ns i) → m ≡ i + length (flat (s .term))) → ((s : Term-at ar os k) → n ≡ k + length (flat (s .term))) →
+        Two-lists p ar ms ns os m end n (h .firsts) (h .others)
+    unfolding first-at other-at first-there other-there
+    rest m n x y = rw (x first-there, y other-there) (skipped p ar ms ns os i end k (h .first) (h .firsts) (h .other) (h .others) (h .lists))
+
+-- both are skipped
+pub walk-skips : (p : System) (ar ms ns os : List ℕ) (end : ℕ) (A : Tree → Tree → Type 0) (i k : ℕ) (h : At-hand p ar ms ns os end A i k) →
+    (m n : ℕ) → ((s : Term-at ar ns i) → m ≡ i + length (flat (s .term))) → ((s : Term-at ar os k) → n ≡ k + length (flat (s .term))) →
+    A (h .firsts) (h .others) → To-walk p ar ms ns os end A m n
+walk-skips p ar ms ns os end A i k h m n x y e =
+    record { firsts = h .firsts; others = h .others; lists = rest p ar ms ns os end A i k h m n x y; known = e }
+
+-- WHAT A BYTE SHOWS of the term that is kept there
+
+pub data Shape (c : ℕ) : Tree → Type 0 where
+  a-variable : (x : ℕ) → c ≡ 64 + x → Shape c (var x)
+  a-symbol : (f : ℕ) (ts : Tree) → c ≡ f → f < 64 → Shape c (app f ts)
+
+pub shape : (p : System) → length (p .arities) ≤ 64 → (ns : List ℕ) (i : ℕ) (t : Tree) → is-term p t ≡ true → Kept ns i (flat t) → Shape (getD ns i 0) t
+unfolding is-term is-list flat code
+shape p few ns i (var x) h k = a-variable x (kept-first ns i (variable x) [] k)
+shape p few ns i (app f ts) h k =
+    let l = well-app p f ts h .0 in
+    a-symbol f ts (kept-first ns i (symbol f) (flat ts) k) (omega arith)
+shape p few ns i nil h k = absurd (false≢true h)
+shape p few ns i (cons t ts) h k = absurd (false≢true h)
+
+module _ (p : System) (ar ms ns os : List ℕ) (end : ℕ) (A : Tree → Tree → Type 0) (i k : ℕ) where
+  module _ (h : At-hand p ar ms ns os end A i k) where
+    pub first-shape : Shape (getD ns i 0) (h .first)
+    unfolding first-there first-at
+    first-shape =
+        let t = first-there p ar ms ns os end A i k h in
+        shape p (h .lists .arities-few) ns i (h .first) (t .is) (t .kept)
+
+    pub other-shape : Shape (getD os k 0) (h .other)
+    unfolding other-there other-at
+    other-shape =
+        let t = other-there p ar ms ns os end A i k h in
+        shape p (h .lists .arities-few) os k (h .other) (t .is) (t .kept)
+
+  -- both are applications
+  pub record At-symbols : Type 0 where
+    pub f : ℕ
+    pub vs : Tree
+    pub ts : Tree
+    pub g : ℕ
+    pub ws : Tree
+    pub us : Tree
+    pub first-byte : getD ns i 0 ≡ f
+    pub other-byte : getD os k 0 ≡ g
+    pub f-small : f < 64
+    pub g-small : g < 64
+    pub lists : Two-lists p ar ms ns os i end k (cons (app f vs) ts) (cons (app g ws) us)
+    pub known : A (cons (app f vs) ts) (cons (app g ws) us)
+
+  pub at-symbols : At-hand p ar ms ns os end A i k → getD ns i 0 < 64 → getD os k 0 < 64 → At-symbols
+  at-symbols h c d = go (first-shape h) (other-shape h) (h .lists) (h .known)
     where
-      go : At-hand → Term-at ar ns i
-      go (at-hand t ts u us b e) = first-at p ar ms ns os i end k t ts u us b
+      go : {t ts u us : Tree} → Shape (getD ns i 0) t → Shape (getD os k 0) u → Two-lists p ar ms ns os i end k (cons t ts) (cons u us) →
+          A (cons t ts) (cons u us) → At-symbols
+      go (a-variable x e) y b known = absurd (omega arith)
+      go (a-symbol f vs e l) (a-variable x o) b known = absurd (omega arith)
+      go {ts = ts} {us = us} (a-symbol f vs e l) (a-symbol g ws o m) b known =
+          record {
+            f = f;
+            vs = vs;
+            ts = ts;
+            g = g;
+            ws = ws;
+            us = us;
+            first-byte = e;
+            other-byte = o;
+            f-small = l;
+            g-small = m;
+            lists = b;
+            known = known;
+          }
 
-  pub other-there : To-walk p ar ms ns os end answer i k → i < end → Term-at ar os k
-  other-there w h = go (both-at-hand w h)
-    where
-      go : At-hand → Term-at ar os k
-      go (at-hand t ts u us b e) = other-at p ar ms ns os i end k t ts u us b
+  module _ (s : At-symbols) (e : s .f ≡ s .g) where
+    -- like symbols have as many arguments
+    pub inner-step : In-step (s .vs) (s .ws)
+    inner-step =
+        let x = first-well p ar ms ns os i end k (s .f) (s .vs) (s .ts) (s .g) (s .ws) (s .us) (s .lists) in
+        let y = other-well p ar ms ns os i end k (s .f) (s .vs) (s .ts) (s .g) (s .ws) (s .us) (s .lists) in
+        let a = well-app p (s .f) (s .vs) x in
+        let b = well-app p (s .g) (s .ws) y in
+        in-step p (s .vs) (s .ws) (a .2) (a .3) (b .2) (b .3) (same-arity p (s .f) (s .vs) (s .g) (s .ws) x y e)
 
-  -- a jump goes past both
-  pub jumped : To-walk p ar ms ns os end answer i k → i < end → jumps ms (getD ns i 0) (getD os k 0) ≡ true →
-      (m n : ℕ) → ((s : Term-at ar ns i) → m ≡ i + length (flat (s .term))) → ((s : Term-at ar os k) → n ≡ k + length (flat (s .term))) →
-      To-walk p ar ms ns os end answer m n
-  unfolding may-reach first-at other-at
-  jumped w h j m n x y = go (both-at-hand w h)
-    where
-      go : At-hand → To-walk p ar ms ns os end answer m n
-      go (at-hand t ts u us b e) =
-          let first = first-at p ar ms ns os i end k t ts u us b in
-          let other = other-at p ar ms ns os i end k t ts u us b in
-          let r = jump-reaches p ms ns os (b .flags-are) (b .arities-few) i k t u (first .is) (other .is) (first .kept) (other .kept) j in
-          record { firsts = ts; others = us; lists = rw (x first, y other) (skipped p ar ms ns os i end k t ts u us b); same = e ∙ rw r }
-
-  -- without a jump both are applications
-  data At-symbols : Type 0 where
-    at-symbols : (f : ℕ) (vs ts : Tree) (g : ℕ) (ws us : Tree) → defined p f ≡ false → Two-lists p ar ms ns os i end k (cons (app f vs) ts) (cons (app g ws) us) →
-        answer ≡ may-reach p (cons (app f vs) ts) (cons (app g ws) us) → At-symbols
-
-  module _ (w : To-walk p ar ms ns os end answer i k) (h : i < end) (j : jumps ms (getD ns i 0) (getD os k 0) ≡ false) where
-    both-symbols : At-symbols
-    unfolding first-at other-at
-    both-symbols = go (both-at-hand w h)
-      where
-        symbols : {t u : Tree} (ts us : Tree) → Applications p t u → Two-lists p ar ms ns os i end k (cons t ts) (cons u us) →
-            answer ≡ may-reach p (cons t ts) (cons u us) → At-symbols
-        symbols ts us (applications f vs g ws d) b e = at-symbols f vs ts g ws us d b e
-
-        go : At-hand → At-symbols
-        go (at-hand t ts u us b e) =
-            let first = first-at p ar ms ns os i end k t ts u us b in
-            let other = other-at p ar ms ns os i end k t ts u us b in
-            symbols ts us (no-jump p ms ns os (b .flags-are) (b .arities-few) i k t u (first .is) (other .is) (first .kept) (other .kept) j) b e
-
-    -- unlike symbols end the walk
-    pub walk-stops : (getD ns i 0 ≡ getD os k 0 → ⊥) → answer ≡ false
-    walk-stops d = go both-symbols
-      where
-        go : At-symbols → answer ≡ false
-        go (at-symbols f vs ts g ws us c b e) =
-            let unlike : f ≡ g → ⊥ = λ x. d (first-byte p ar ms ns os i end k f vs ts g ws us b ∙ x ∙ sym (other-byte p ar ms ns os i end k f vs ts g ws us b)) in
-            e ∙ symbols-differ p ar ms ns os i end k f vs ts g ws us b unlike c
-
-    -- and like symbols are entered
-    pub walk-enters : getD ns i 0 ≡ getD os k 0 → To-walk p ar ms ns os end answer (i + 1) (k + 1)
-    walk-enters d = go both-symbols
-      where
-        go : At-symbols → To-walk p ar ms ns os end answer (i + 1) (k + 1)
-        go (at-symbols f vs ts g ws us c b e) =
-            let like : f ≡ g = sym (first-byte p ar ms ns os i end k f vs ts g ws us b) ∙ d ∙ other-byte p ar ms ns os i end k f vs ts g ws us b in
-            record {
-              firsts = joined vs ts;
-              others = joined ws us;
-              lists = entered p ar ms ns os i end k f vs ts g ws us b like;
-              same = e ∙ entered-reach p ar ms ns os i end k f vs ts g ws us b like c;
-            }
+    -- and both are entered
+    pub walk-enters : A (joined (s .vs) (s .ts)) (joined (s .ws) (s .us)) → To-walk p ar ms ns os end A (i + 1) (k + 1)
+    walk-enters known =
+        record {
+          firsts = joined (s .vs) (s .ts);
+          others = joined (s .ws) (s .us);
+          lists = entered p ar ms ns os i end k (s .f) (s .vs) (s .ts) (s .g) (s .ws) (s .us) (s .lists) e;
+          known = known;
+        }

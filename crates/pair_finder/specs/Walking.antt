@@ -6,7 +6,7 @@ use mathlib.Core.List.{List, [], _∷_, _++_, map}
 use Prim.Native.Nat.{ℕ, zero, suc, _+_, _*_, _≤_, _<_}
 use lib.Dec.{ltb, leb, eqb}
 use lib.ListN.{length, getD, take, drop}
-use Rattle.rewriting.specs.Terms.{Tree, System, rule, is-list, well, width}
+use Rattle.rewriting.specs.Terms.{Tree, System, rule, is-list, is-term, well, width}
 use Rattle.rewriting.specs.Pairs.{Pair, is-pair, defined}
 use Rattle.records.specs.declared.Answer.{Answer}
 use Rattle.records.specs.Outcomes.{refused, passed}
@@ -15,6 +15,7 @@ use Rattle.terms.specs.Sides.{flat}
 use Rattle.terms.specs.Kept.{Kept, part, nodes-room, starts-room, symbols-room, Term-at}
 use Rattle.pack_reader.specs.Stored.{Stored}
 use Rattle.pairs.specs.Listing.{a-pair, pairs, pair-bytes}
+use Rattle.pairs.specs.Arcs.{may-reach, reach-arc}
 
 -- a node's byte applies a defined symbol
 unfoldable pub is-defined : (flags : List ℕ) → ℕ → Bool
@@ -67,13 +68,47 @@ pub record Walkable (arities flags nodes others : List ℕ) (u end v : ℕ) : Ty
   pub other : Tree
   pub lists : Two-lists system arities flags nodes others u end v first other
 
--- the walk skips a term on either side: one is a variable, or the first has a defined root
-unfoldable pub jumps : (flags : List ℕ) → (c d : ℕ) → Bool
-jumps ms c d = leb 64 d || (leb 64 c || is-defined ms c)
+-- a node whose byte is c stands at an open place of the first term: it is a variable, or applies a defined symbol
+unfoldable pub is-open : (flags : List ℕ) → (c : ℕ) → Bool
+is-open ms c = leb 64 c || is-defined ms c
+
+-- the walk skips a term on either side: the first is open, or the other is a variable or, of both, has a defined root
+unfoldable pub jumps : (flags : List ℕ) → (both : Bool) → (c d : ℕ) → Bool
+jumps ms b c d = leb 64 d || (is-open ms c || (b && is-defined ms d))
 
 -- else it goes on only into both: the same constructor stands on both sides
-unfoldable pub enters : (flags : List ℕ) → (c d : ℕ) → Bool
-enters ms c d = eqb c d && not (jumps ms c d)
+unfoldable pub enters : (flags : List ℕ) → (both : Bool) → (c d : ℕ) → Bool
+enters ms b c d = eqb c d && not (jumps ms b c d)
+
+-- two terms over one system are kept at a and b
+pub record Two-terms (arities flags nodes : List ℕ) (a b : ℕ) : Type 0 where
+  pub arities-long : length arities ≡ symbols-room
+  pub flags-long : length flags ≡ symbols-room
+  pub nodes-few : length nodes ≤ 65536
+  pub system : System
+  pub arities-are : take (length (system .arities)) arities ≡ system .arities
+  pub arities-few : length (system .arities) ≤ 64
+  pub flags-are : (f : ℕ) → f < 64 → getD flags f 0 ≡ cond (defined system f) 1 0
+  pub first : Tree
+  pub other : Tree
+  pub first-is : is-term system first ≡ true
+  pub other-is : is-term system other ≡ true
+  pub first-kept : Kept nodes a (flat first)
+  pub other-kept : Kept nodes b (flat other)
+
+-- two lists of which the first may reach the second
+pub record Reaching (arities flags nodes : List ℕ) (u end v : ℕ) : Type 0 where
+  pub walk : Walkable arities flags nodes nodes u end v
+  pub reaches : may-reach (walk .system) (walk .first) (walk .other) ≡ true
+
+-- and a term kept at `at` that the variable with the byte d meets
+pub record Meeting-at (arities flags nodes : List ℕ) (at d u end v : ℕ) : Type 0 where
+  pub lists : Reaching arities flags nodes u end v
+  pub term : Tree
+  pub is : is-term (lists .walk .system) term ≡ true
+  pub kept : Kept nodes at (flat term)
+  pub variable : ℕ
+  pub byte : d ≡ 64 + variable
 
 -- the arrays in which a pack is kept have their lengths, and its sides lie in them
 pub record Kept-pack (rules : ℕ) (arities starts nodes flags : List ℕ) : Type 0 where
@@ -102,6 +137,11 @@ pub record Arc-asked (arities starts nodes flags : List ℕ) (right other : ℕ)
 pub record Arc-to-asked (arities starts nodes flags : List ℕ) (right end other : ℕ) : Type 0 where
   pub asked : Arc-asked arities starts nodes flags right other
   pub ends : (s : Term-at arities nodes right) → end ≡ right + length (flat (s .term))
+
+-- and that document 01's arc runs there
+pub record Arc-reached (arities starts nodes flags : List ℕ) (right end other : ℕ) : Type 0 where
+  pub ended : Arc-to-asked arities starts nodes flags right end other
+  pub reached : reach-arc (ended .asked .kept .system) (ended .asked .pair) (a-pair other 0) ≡ true
 
 -- what `place_of` answers: the place among the nodes of a pair's right side, or 7
 unfoldable pub Place-answer : System → (starts : List ℕ) → (at-rule place : ℕ) → Answer → Type 0

@@ -12,15 +12,16 @@ use borrow.Author.Tests.{ltb-true, lt-ltb, le-ltb, eqb-true, eqb-false, eq-eqb}
 use Rattle.rewriting.proofs.Basics.{by-test, and-left, and-right}
 use Rattle.rewriting.proofs.Trees.{term-not-list}
 use Rattle.rewriting.proofs.Pairs.{pair-rule}
+use Rattle.terms.specs.Sides.{flat}
 use Rattle.terms.specs.Kept.{Term-at}
 use Rattle.terms.proofs.Parsing.{flat-positive}
 use Rattle.pairs.specs.Listing.{a-pair}
-use Rattle.pairs.specs.Arcs.{arc}
-use Rattle.pair_finder.specs.Walking.{is-defined, System-kept, Arc-asked}
+use Rattle.pairs.specs.Arcs.{arc, reach-arc}
+use Rattle.pair_finder.specs.Walking.{is-defined, System-kept, Arc-asked, Arc-reached}
 use Rattle.pair_finder.proofs.FromStore.{stored-rule, stored-place}
-use Rattle.pair_finder.proofs.Asked.{right-at, no-arc}
+use Rattle.pair_finder.proofs.Asked.{right-at, no-arc, not-reached}
 use Rattle.entries.specs.declared.Entry.{Entry}
-use Rattle.partition.specs.Working.{named, root, back-to, Begun, Keys, Roots, Lowered, Back-asked, Back-asked-of}
+use Rattle.partition.specs.Working.{named, root, back-to, Begun, Keys, Roots, Lowered, Back-asked, Search-asked, First-reached, Back-asked-of}
 use Rattle.partition.proofs.Backward.{back-to-some, no-back-to}
 
 -- the left sides of a pack that is kept begin within the nodes
@@ -128,6 +129,10 @@ module _ {rules right : ℕ} {ar ss ns ms ks rs : List ℕ} (a : Back-asked rule
     pub no-arc-there : (s : ℕ) → arc (a .kept .system) (a .pair) (a-pair s 0) ≡ false → back-there s ≡ false
     no-arc-there s h = ap (λ (b : Bool). ltb (getD (a .lows) s 0) own && b) h ∙ and-false (ltb (getD (a .lows) s 0) own)
 
+    -- nor where document 01's arc does not
+    pub none-reached : (s : ℕ) → s < rules → reach-arc (a .kept .system) (a .pair) (a-pair s 0) ≡ false → back-there s ≡ false
+    none-reached s h f = no-arc-there s (not-reached _ _ _ _ _ _ (asked-of s h) f)
+
     -- nor to a rule with another root
     not-back : (s : ℕ) → s < rules → (root ss ns s ≡ getD ns right 0 → own ≤ getD (a .lows) s 0) → back-there s ≡ false
     not-back s h low =
@@ -142,18 +147,46 @@ module _ {rules right : ℕ} {ar ss ns ms ks rs : List ℕ} (a : Back-asked rule
         (λ s l. not-back s l
         (λ e. let g : getD rs (getD ns right 0) 0 ≤ getD (a .lows) s 0 = rw e at (a .keyed .roots-are .low s l (rw e root-small)) in omega arith))
 
+    -- one does where an arc leads to a rule with a lower component
+    pub arc-back : (s : ℕ) → s < rules → ltb (getD (a .lows) s 0) own ≡ true → arc (a .kept .system) (a .pair) (a-pair s 0) ≡ true → back rules ≡ true
+    arc-back s h l k = back-to-some (a .kept .system) (a .lows) own (a .pair) s rules h l k
+
     -- the difference of the rule's key and the root's first one tells
     module _ (s r : ℕ) (h : s < rules) (wraps : (r + 65536 * getD ns right 0) % 4294967296 ≡ getD ks s 0) where
       abbrev keys : Keys rules ss ns (a .lows) ks
       keys = a .keyed .keys-are
 
-      pub arc-back : own < 65536 → r < own → arc (a .kept .system) (a .pair) (a-pair s 0) ≡ true → back rules ≡ true
-      arc-back o l k =
-          back-to-some (a .kept .system) (a .lows) own (a .pair) s rules h
-          (lt-ltb _ _ (below r (getD ns right 0) own _ _ (wraps ∙ keys .key s h) (omega (arith, root-small)) (keys .small s h) o l)) k
+      pub is-lower : own < 65536 → r < own → ltb (getD (a .lows) s 0) own ≡ true
+      is-lower o l = lt-ltb _ _ (below r (getD ns right 0) own _ _ (wraps ∙ keys .key s h) (omega (arith, root-small)) (keys .small s h) o l)
 
       pub no-lower : r < 4294967296 → own ≤ r → back-there s ≡ false
       no-lower o l = not-back s h (not-below r (getD ns right 0) own _ _ (wraps ∙ keys .key s h) (omega (arith, root-small)) (keys .small s h) o l)
+
+    -- A SEARCH from rule s on found r
+    module _ (end : ℕ) (ends : (t : Term-at ar ns right) → end ≡ right + length (flat (t .term))) (s r : ℕ)
+        (said : (b : Search-asked rules ar ss ns ms ks right end) → First-reached (b .asked .kept .system) (b .asked .lows) own (b .asked .pair) rules s r) where
+      pub found-first : First-reached (a .kept .system) (a .lows) own (a .pair) rules s r
+      found-first = said (record { roots = rs; asked = a; ends = ends })
+
+      -- no rule
+      pub none-found : back s ≡ false → rules ≤ r → back rules ≡ false
+      none-found h l =
+          let e : r ≡ rules = omega (arith, found-first .within) in
+          rw e at (found-first .none-between h)
+
+      module _ (h : r < rules) where
+        pub found-reached : Arc-reached ar ss ns ms right end r
+        found-reached = record { ended = record { asked = asked-of r h; ends = ends }; reached = found-first .reached h .1 }
+
+        -- to which an arc leads, or not
+        module _ (b : Bool) (agreed : (x : Arc-reached ar ss ns ms right end r) → b ≡ arc (x .ended .asked .kept .system) (x .ended .asked .pair) (a-pair r 0)) where
+          pub found-back : b ≡ true → back rules ≡ true
+          unfolding found-reached
+          found-back e = arc-back r h (found-first .reached h .0) (sym (agreed found-reached) ∙ e)
+
+          pub found-none : b ≡ false → back s ≡ false → back (r + 1) ≡ false
+          unfolding found-reached
+          found-none e none = none-more r (found-first .none-between none) (no-arc-there r (sym (agreed found-reached) ∙ e))
 
 -- FROM THE PAIR OF AN ENTRY: it is kept at its place of its rule's right side
 

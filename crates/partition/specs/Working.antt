@@ -6,7 +6,8 @@ use mathlib.Core.List.{List, [], _∷_}
 use Prim.Native.Nat.{ℕ, zero, suc, _+_, _*_, _≤_, _<_, min}
 use lib.Dec.{ltb, eqb}
 use lib.ListN.{length, getD, set}
-use Rattle.terms.specs.Kept.{starts-room, symbols-room}
+use Rattle.terms.specs.Sides.{flat}
+use Rattle.terms.specs.Kept.{starts-room, symbols-room, Term-at}
 use Rattle.rewriting.specs.Terms.{System}
 use Rattle.rewriting.specs.Pairs.{Pair, is-pair}
 use Rattle.records.specs.declared.Answer.{Answer}
@@ -18,7 +19,7 @@ use Rattle.records.specs.Files.{Whole}
 use Rattle.packs.specs.PackReading.{most-rules}
 use Rattle.pair_finder.specs.Walking.{System-kept}
 use Rattle.pairs.specs.Listing.{a-pair, pairs, count-pair}
-use Rattle.pairs.specs.Arcs.{arc}
+use Rattle.pairs.specs.Arcs.{arc, reach-arc}
 use Rattle.certificates.specs.Components.{Component}
 use Rattle.certificates.specs.CertificateReading.{most-certificate-bytes, components-from}
 use Rattle.judging.specs.Judges.{plain}
@@ -129,7 +130,20 @@ pub record Back-asked (rules : ℕ) (arities starts nodes flags keys roots : Lis
   pub is : is-pair (kept .system) pair ≡ true
   pub at-right : right ≡ getD starts (2 * pair .at-rule + 1) 0 + pair .place
 
--- the same from the pair of an entry
+-- the same where its right side ends at `end`, and the roots are not looked at
+pub record Search-asked (rules : ℕ) (arities starts nodes flags keys : List ℕ) (right end : ℕ) : Type 0 where
+  pub roots : List ℕ
+  pub asked : Back-asked rules arities starts nodes flags keys roots right
+  pub ends : (s : Term-at arities nodes right) → end ≡ right + length (flat (s .term))
+
+-- r is the first rule from `first` on with a pair in a component below `own` to which document 01's arc leads, or `rules`
+pub record First-reached (p : System) (lows : List ℕ) (own : ℕ) (q : Pair) (rules first r : ℕ) : Type 0 where
+  pub within : r ≤ rules
+  pub later : first ≤ r
+  pub none-between : back-to p lows own q first ≡ false → back-to p lows own q r ≡ false
+  pub reached : r < rules → (ltb (getD lows r 0) own ≡ true) × (reach-arc p q (a-pair r 0) ≡ true)
+
+-- arcs back are asked for from the pair of an entry
 pub record Back-asked-of (e : Entry) (rules : ℕ) (arities starts nodes flags keys roots : List ℕ) : Type 0 where
   pub kept : System-kept rules arities starts nodes flags
   pub lows : List ℕ

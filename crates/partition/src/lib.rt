@@ -8,9 +8,9 @@ use records::MOST_PAIRS;
 use records::Refusal;
 use terms::MOST_SYMBOLS;
 ghost use mathlib.Core.Path.{_≡_};
-ghost use Prim.Native.Nat.{_<_};
+ghost use Prim.Native.Nat.{_≤_, _<_};
 ghost use lib.ListN.{length};
-ghost use Rattle.partition.specs.Working.{slot, back-to, back-at, Keys, Roots, Lowered, Noted-entry, Keys-asked, Back-asked, Back-asked-of, Judgeable, Ordering-asked, Ordered-as};
+ghost use Rattle.partition.specs.Working.{slot, back-to, back-at, Keys, Roots, Lowered, Noted-entry, Keys-asked, Back-asked, Search-asked, First-reached, Back-asked-of, Judgeable, Ordering-asked, Ordered-as};
 
 // Above the number of every component.
 const NO_COMPONENT: u16 = 65535;
@@ -65,6 +65,37 @@ fn lowest_of_roots(starts: &[u16], nodes: &[u8], rules: usize, lows: &[u16], roo
     }
 }
 
+// The first rule from `first` on with a pair in a component below `own` to which document 01's arc leads from the pair whose right
+// side is kept from `right` to `end`, or `rules`.
+fn reached_from(
+    arities: &[u8],
+    starts: &[u16],
+    nodes: &[u8],
+    defined: &[u8],
+    rules: usize,
+    keys: &[u32],
+    right: usize,
+    end: usize,
+    own: u16,
+    first: usize,
+) -> usize
+    requires { ⌜ Search-asked rules (now arities) (now starts) (now nodes) (now defined) (now keys) right end × (first ≤ rules) ⌝ }
+    ensures { λ r. ⌜ ((a : Search-asked rules (now (arities .entry)) (now (starts .entry)) (now (nodes .entry)) (now (defined .entry)) (now (keys .entry)) right end) → First-reached (a .asked .kept .system) (a .asked .lows) own (a .asked .pair) rules first r) ⌝ }
+{
+    let from = 65536 * (nodes[right] as u32);
+    let mut s = first;
+    while s < rules {
+        // One test for both: the rule has this root, and a component below `own`.
+        if std::num::wrapping_sub_u32(keys[s], from) < own as u32 {
+            if pair_finder::arcs::reaches_to(arities, starts, nodes, defined, right, end, s) {
+                return s;
+            }
+        }
+        s = s + 1;
+    }
+    rules
+}
+
 // An arc leads from the pair whose right side is kept at `right` to a rule with a pair in a component below `own`.
 fn back_from(
     arities: &[u8],
@@ -86,16 +117,27 @@ fn back_from(
         return false;
     }
     let end = terms::skip(arities, nodes, right);
-    let from = 65536 * (c as u32);
     let mut s = 0;
     while s < rules {
-        // One test for both: the rule has this root, and a component below `own`.
-        if std::num::wrapping_sub_u32(keys[s], from) < own as u32 {
-            if pair_finder::arcs::arc_to(arities, starts, nodes, defined, right, end, s) {
-                return true;
-            }
+        let reached = reached_from(
+            arities,
+            starts,
+            nodes,
+            defined,
+            rules,
+            keys,
+            right,
+            end,
+            own,
+            s,
+        );
+        if rules <= reached {
+            return false;
         }
-        s = s + 1;
+        if pair_finder::arcs::agrees_to(arities, starts, nodes, defined, right, end, reached) {
+            return true;
+        }
+        s = reached + 1;
     }
     false
 }

@@ -87,14 +87,18 @@ pub fn arc_kept(
                 other_place,
             ) {
                 Answer::Refused(x) => ArcAnswer::Refused(x),
-                Answer::Passed(_) => said(pair_finder::arcs::arc_from(
-                    arities,
-                    starts,
-                    nodes,
-                    defined,
-                    right,
-                    other_rule,
-                )),
+                Answer::Passed(_) => {
+                    let end = terms::skip(arities, nodes, right);
+                    said(pair_finder::arcs::arc_to(
+                        arities,
+                        starts,
+                        nodes,
+                        defined,
+                        right,
+                        end,
+                        other_rule,
+                    ))
+                }
             }
         }
     }

@@ -2,11 +2,13 @@
 use mathlib.Core.Path.{_≡_}
 use mathlib.Core.Bool.{true}
 use Prim.Native.Nat.{_+_, _*_}
+use native.Mathlib.Omega.{arith}
 use borrow.Author.Needs.{needs}
 use lib.ListN.{getD}
 use Rattle.rewriting.specs.Pairs.{is-pair}
 use Rattle.pairs.specs.Listing.{a-pair}
 use Rattle.pair_finder.specs.Walking.{System-kept}
+use Rattle.pair_finder.proofs.Asked.{right-at}
 use Rattle.teldyzhom.proofs.Entering.{no-pair, pair-at, first-missing, second-missing, may-ask, answers}
 use Rattle.teldyzhom.proofs.kept.arc_kept.Statement.{statement}
 use Rattle.teldyzhom.proofs.kept.arc_kept.Tie as tie
@@ -38,11 +40,18 @@ second-is : (c : tie.After-enum-told) → let s = start (first (between (second 
     is-pair (k .system) (a-pair (s .args .other-rule) (s .args .other-place)) ≡ true
 second-is c k = pair-at _ _ _ _ _ (second c .place-of2 .ensures (k .system) _ _ (k .stored)) _ (c .enum-told .given .1) .0
 
-to-ask : tie.Need-arc-from-requires
-to-ask c κs =
+to-end : tie.Need-skip-requires
+to-end c κs =
     let f = between (second c) in
     let k = start (first f) .pre in
-    may-ask k _ _ _ (first-is f k) (second-is c k)
+    (k .arrays .arities-long, omega (arith, k .arrays .nodes-long), right-at _ _ _ _ _ _ (may-ask k _ _ _ (first-is f k) (second-is c k)))
+
+to-ask : tie.Need-arc-to-requires
+to-ask c κs =
+    let t = c .before in
+    let f = between (second t) in
+    let k = start (first f) .pre in
+    record { asked = may-ask k _ _ _ (first-is f k) (second-is t k); ends = c .skip .ensures }
 
 no-first : tie.Need-returns
 no-first c = λ k.
@@ -57,9 +66,9 @@ no-second c = λ k.
 tells : tie.Need-returns-3
 tells c = λ k.
     let a = c .before in
-    let t = a .before in
+    let t = a .before .before in
     let f = between (second t) in
-    answers k _ _ _ (first-is f k) (second-is t k) _ (a .arc-from .ensures) _ (c .said .ensures)
+    answers k _ _ _ (first-is f k) (second-is t k) _ (a .arc-to .ensures) _ (c .said .ensures)
 
 pub arc-kept-spec : {M : Type 1} → statement M
 arc-kept-spec =
@@ -71,6 +80,7 @@ arc-kept-spec =
     (λ c κs. let k = start (first (c .before)) .pre in (k .arrays .laid, k .arrays .flags-long))
     (λ c. search needs)
     (λ c. search needs)
+    to-end
     to-ask
     (λ c κs. search needs)
     no-first

@@ -1,0 +1,148 @@
+-- The walk over two lists of which the first may reach the second, for what the variables of the second meet: its answer is F
+-- of the meetings still to come, whatever it has passed.
+use mathlib.Core.Path.{_≡_, refl, sym, ap, _∙_}
+use mathlib.Core.Bool.{Bool, true, false, _&&_, _||_, cond}
+use mathlib.Core.List.{List, [], _∷_, _++_, append-assoc}
+use Prim.Native.Nat.{ℕ, _+_, _≤_, _<_}
+use native.Mathlib.Omega.{arith}
+use lib.Dec.{leb, eqb}
+use lib.ListN.{length, getD}
+use borrow.Author.Tests.{leb-false, lt-leb, le-leb, eqb-true}
+use Rattle.rewriting.specs.Terms.{Tree, var, app, nil, cons, System, is-term}
+use Rattle.rewriting.specs.Pairs.{defined}
+use Rattle.rewriting.proofs.Basics.{not-both, and-left, and-right, and-both, or-left-false, or-right-false}
+use Rattle.terms.specs.Sides.{flat}
+use Rattle.terms.specs.Kept.{Kept, Term-at}
+use Rattle.terms.proofs.Rests.{joined}
+use Rattle.pairs.specs.Arcs.{may-meet, may-reach, Meeting, a-meeting, meetings}
+use Rattle.pair_finder.specs.Walking.{is-defined, is-open, Two-lists}
+use Rattle.pair_finder.proofs.Subterms.{symbol-defined}
+use Rattle.pair_finder.proofs.Walks.{In-step, both-nil, both-cons, To-walk, At-hand, at-hand, first-is, first-kept, rest, walk-ends, walk-skips, Shape, a-variable, a-symbol, shape, first-shape, other-shape, At-symbols, at-symbols, inner-step, walk-enters}
+use Rattle.pair_finder.proofs.Comparing.{joined-meet}
+
+module _ (p : System) where
+  -- lists one after another have their meetings one after another
+  joined-meetings : {ts us : Tree} → In-step ts us → (vs ws : Tree) → meetings p (joined ts vs) (joined us ws) ≡ meetings p ts us ++ meetings p vs ws
+  unfolding joined meetings
+  joined-meetings both-nil vs ws = refl
+  joined-meetings (both-cons t ts u us s) vs ws = rw (joined-meetings s vs ws) (sym (append-assoc (meetings p t u) (meetings p ts us) (meetings p vs ws)))
+
+  defined-meets : (f : ℕ) (ts u : Tree) → defined p f ≡ true → meetings p (app f ts) u ≡ []
+  unfolding meetings
+  defined-meets f ts (var y) d = rw d
+  defined-meets f ts (app g us) d = rw d
+  defined-meets f ts nil d = refl
+  defined-meets f ts (cons u us) d = refl
+
+module _ (p : System) (ms : List ℕ) (are : (f : ℕ) → f < 64 → getD ms f 0 ≡ cond (defined p f) 1 0) (few : length (p .arities) ≤ 64) where
+  symbol-open : {c f : ℕ} → c ≡ f → f < 64 → is-open ms c ≡ defined p f
+  unfolding is-open
+  symbol-open {f = f} e l = rw (e, lt-leb 64 f l) (symbol-defined p ms are few f l)
+
+  -- nothing is met at an open place
+  open-meets : {c : ℕ} {t : Tree} → Shape c t → is-open ms c ≡ true → (u : Tree) → meetings p t u ≡ []
+  unfolding meetings
+  open-meets (a-variable x e) o u = refl
+  open-meets (a-symbol f ts e l) o u = defined-meets p f ts u (sym (symbol-open e l) ∙ o)
+
+variable-open : (ms : List ℕ) (x : ℕ) {c : ℕ} → c ≡ 64 + x → is-open ms c ≡ true
+unfolding is-open
+variable-open ms x e = rw (e, le-leb 64 (64 + x) (omega arith))
+
+-- a variable is one node
+variable-passed : (ar os : List ℕ) (k : ℕ) → 64 ≤ getD os k 0 → (s : Term-at ar os k) → k + 1 ≡ k + length (flat (s .term))
+unfolding flat
+variable-passed ar os k d s = go (shape (s .system) (s .arities-few) os k (s .term) (s .is) (s .kept))
+  where
+    go : {t : Tree} → Shape (getD os k 0) t → k + 1 ≡ k + length (flat t)
+    go (a-variable x e) = refl
+    go (a-symbol f ts e l) = absurd (omega arith)
+
+-- the first list may reach the other, and the answer is F of what the other's variables meet in it
+abbrev pub Gathered : (List Meeting → Bool) → System → (answer : Bool) → Tree → Tree → Type 0
+Gathered F p r ts us = (may-reach p ts us ≡ true) × (r ≡ F (meetings p ts us))
+
+module _ (F : List Meeting → Bool) (p : System) (ar ms ns os : List ℕ) (end : ℕ) (answer : Bool) (i k : ℕ) where
+  -- a variable meets the term kept at i, and what comes after
+  pub record At-meeting : Type 0 where
+    pub variable : ℕ
+    pub byte : getD os k 0 ≡ 64 + variable
+    pub met : Tree
+    pub is : is-term p met ≡ true
+    pub kept : Kept ns i (flat met)
+    pub firsts : Tree
+    pub others : Tree
+    pub lists : (m : ℕ) → ((s : Term-at ar ns i) → m ≡ i + length (flat (s .term))) → Two-lists p ar ms ns os m end (k + 1) firsts others
+    pub reaches : may-reach p firsts others ≡ true
+    pub answered : answer ≡ F (a-meeting variable met ∷ meetings p firsts others)
+
+  module _ (w : To-walk p ar ms ns os end (Gathered F p answer) i k) where
+    -- nothing is left
+    pub gather-ends : end ≤ i → answer ≡ F []
+    unfolding meetings
+    gather-ends h = walk-ends p ar ms ns os end (Gathered F p answer) i k w h .1
+
+    module _ (l : i < end) where
+      pub hand : At-hand p ar ms ns os end (Gathered F p answer) i k
+      hand = at-hand p ar ms ns os end (Gathered F p answer) i k w l
+
+      -- past an open place, and what stands there on the other side
+      pub gather-skips : is-open ms (getD ns i 0) ≡ true →
+          (m n : ℕ) → ((s : Term-at ar ns i) → m ≡ i + length (flat (s .term))) → ((s : Term-at ar os k) → n ≡ k + length (flat (s .term))) →
+          To-walk p ar ms ns os end (Gathered F p answer) m n
+      unfolding may-meet meetings
+      gather-skips o m n x y =
+          let h = hand in
+          let none = open-meets p ms (h .lists .flags-are) (h .lists .arities-few) (first-shape p ar ms ns os end (Gathered F p answer) i k h) o (h .other) in
+          walk-skips p ar ms ns os end (Gathered F p answer) i k h m n x y
+          (and-right (may-reach p (h .first) (h .other)) _ (h .known .0), h .known .1 ∙ rw none)
+
+      module _ (c : is-open ms (getD ns i 0) ≡ false) where
+        -- into two applications, whose symbols are the same, since the one may reach the other
+        pub gather-enters : getD os k 0 < 64 → To-walk p ar ms ns os end (Gathered F p answer) (i + 1) (k + 1)
+        unfolding is-open may-meet meetings
+        gather-enters d =
+            let s = at-symbols p ar ms ns os end (Gathered F p answer) i k hand (leb-false 64 _ (or-left-false _ _ c)) d in
+            let constructor : defined p (s .f) ≡ false = sym (symbol-open p ms (s .lists .flags-are) (s .lists .arities-few) (s .first-byte) (s .f-small)) ∙ c in
+            let both : (eqb (s .f) (s .g) && may-reach p (s .vs) (s .ws)) && may-reach p (s .ts) (s .us) ≡ true = rw constructor at (s .known .0) in
+            let first = and-left _ _ both in
+            let like = eqb-true (s .f) (s .g) (and-left _ _ first) in
+            let step = inner-step p ar ms ns os end (Gathered F p answer) i k s like in
+            walk-enters p ar ms ns os end (Gathered F p answer) i k s like (
+              rw (joined-meet false p step (s .ts) (s .us)) (and-both (and-right (eqb (s .f) (s .g)) _ first) (and-right (eqb (s .f) (s .g) && may-reach p (s .vs) (s .ws)) _ both)),
+              s .known .1 ∙ rw (constructor, joined-meetings p step (s .ts) (s .us)),
+            )
+
+        -- or to a variable that meets an application of a constructor
+        pub gather-meets : 64 ≤ getD os k 0 → At-meeting
+        unfolding may-meet meetings
+        gather-meets d =
+            go (first-shape p ar ms ns os end (Gathered F p answer) i k hand) (other-shape p ar ms ns os end (Gathered F p answer) i k hand)
+            (first-is p ar ms ns os end (Gathered F p answer) i k hand) (first-kept p ar ms ns os end (Gathered F p answer) i k hand) (hand .known)
+          where
+            after : (m : ℕ) → ((s : Term-at ar ns i) → m ≡ i + length (flat (s .term))) → Two-lists p ar ms ns os m end (k + 1) (hand .firsts) (hand .others)
+            after m x = rest p ar ms ns os end (Gathered F p answer) i k hand m (k + 1) x (variable-passed ar os k d)
+
+            go : {t u : Tree} → Shape (getD ns i 0) t → Shape (getD os k 0) u → is-term p t ≡ true → Kept ns i (flat t) →
+                Gathered F p answer (cons t (hand .firsts)) (cons u (hand .others)) → At-meeting
+            go {t} {u} (a-variable x e) y is kept known = absurd (not-both _ (variable-open ms x e) c)
+            go {t} {u} (a-symbol f ts e l) (a-symbol g us o m) is kept known = absurd (omega (arith, d, o, m))
+            go {t} {u} (a-symbol f ts e l) (a-variable y o) is kept known =
+                let constructor : defined p f ≡ false = sym (symbol-open p ms (hand .lists .flags-are) (hand .lists .arities-few) e l) ∙ c in
+                record {
+                  variable = y;
+                  byte = o;
+                  met = app f ts;
+                  is = is;
+                  kept = kept;
+                  firsts = hand .firsts;
+                  others = hand .others;
+                  lists = after;
+                  reaches = known .0;
+                  answered = known .1 ∙ rw constructor;
+                }
+
+  -- past a meeting
+  pub meeting-passed : (a : At-meeting) → (m : ℕ) → ((s : Term-at ar ns i) → m ≡ i + length (flat (s .term))) → answer ≡ F (meetings p (a .firsts) (a .others)) →
+      To-walk p ar ms ns os end (Gathered F p answer) m (k + 1)
+  meeting-passed a m x e = record { firsts = a .firsts; others = a .others; lists = a .lists m x; known = (a .reaches, e) }

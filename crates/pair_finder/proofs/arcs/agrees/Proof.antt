@@ -1,0 +1,144 @@
+-- `pair_finder::arcs::agrees` meets its contract. The loop's invariant: the answer is that of the meetings still to come.
+use mathlib.Core.Path.{sym, _∙_}
+use mathlib.Core.Bool.{not}
+use Prim.Native.Nat.{_-_}
+use native.Mathlib.Omega.{arith}
+use borrow.Author.Tests.{not-true, not-false}
+use Rattle.terms.specs.Kept.{Term-at}
+use Rattle.pairs.specs.Arcs.{agrees}
+use Rattle.pair_finder.specs.Walking.{Meeting-at}
+use Rattle.pair_finder.proofs.Kept.{term-within, term-passed}
+use Rattle.pair_finder.proofs.Walks.{at-hand, first-there, other-there}
+use Rattle.pair_finder.proofs.Gathering.{At-meeting, gather-ends, gather-skips, gather-enters, gather-meets, meeting-passed}
+use Rattle.pair_finder.proofs.Agreeing.{test, To-agree, agreeing, two-terms, agrees-not, agrees-so-far}
+use Rattle.pair_finder.proofs.arcs.agrees.Statement.{statement}
+use Rattle.pair_finder.proofs.arcs.agrees.Tie as tie
+
+abbrev Inv-loop : tie.InvT-loop
+Inv-loop arities flags nodes at variable u end v i₀ k₀ i k =
+    (m : Meeting-at arities flags nodes at variable u end v) → To-agree arities flags nodes at variable u end v m i k
+
+abbrev μ-loop : tie.MeasureT-loop
+μ-loop arities flags nodes at variable u end v i₀ k₀ i k = end - i
+
+holds : tie.Need-loop-holds Inv-loop μ-loop
+holds c m = agreeing _ _ _ _ _ _ _ _ m
+
+-- in each turn a term is kept at each of the two places
+module _ (c : tie.In-loop Inv-loop μ-loop) where
+  first : Term-at (c .before .before .before .before .before .args .arities .now) (c .before .before .before .before .before .args .nodes .now) (c .before .loop .i)
+  first =
+      let l = c .before .loop in
+      first-there _ _ _ _ _ _ _ _ _ (at-hand _ _ _ _ _ _ _ (l .i) (l .k) (l .inv (c .before .before .before .before .before .pre)) (c .loop-test .taken))
+
+  other : Term-at (c .before .before .before .before .before .args .arities .now) (c .before .before .before .before .before .args .nodes .now) (c .before .loop .k)
+  other =
+      let l = c .before .loop in
+      other-there _ _ _ _ _ _ _ _ _ (at-hand _ _ _ _ _ _ _ (l .i) (l .k) (l .inv (c .before .before .before .before .before .pre)) (c .loop-test .taken))
+
+ended : tie.Need-skip-requires Inv-loop μ-loop
+ended c κs =
+    let turn = c .before .before .before .before in
+    let walk = turn .before .before .before .before .before .pre .lists .walk in
+    (walk .arities-long, walk .nodes-few, first turn)
+
+ended-2 : tie.Need-skip-requires-2 Inv-loop μ-loop
+ended-2 c κs =
+    let turn = c .before .before .before .before .before in
+    let walk = turn .before .before .before .before .before .pre .lists .walk in
+    (walk .arities-long, walk .nodes-few, other turn)
+
+later : tie.Need-loop-less Inv-loop μ-loop
+later c =
+    let turn = c .before .before .before .before .before .before in
+    omega (arith, turn .loop-test .taken, term-passed _ _ _ (first turn) (c .before .skip .result) (c .before .skip .ensures (first turn)))
+
+past-open : tie.Need-loop-again Inv-loop μ-loop
+past-open c m =
+    let open' = c .before .before in
+    let turn = open' .before .before .before .before in
+    let l = turn .before .loop in
+    gather-skips (test _ _ _ _ _ _ _ _ m) _ _ _ _ _ _ _ (l .i) (l .k) (l .inv m) (turn .loop-test .taken) (sym (open' .before .is-open .ensures) ∙ open' .if1 .taken) _ _
+    (c .before .skip .ensures) (c .skip2 .ensures)
+
+enters-both : tie.Need-loop-again-2 Inv-loop μ-loop
+enters-both c m =
+    let closed = c .before in
+    let turn = closed .before .before .before .before in
+    let l = turn .before .loop in
+    gather-enters (test _ _ _ _ _ _ _ _ m) _ _ _ _ _ _ _ (l .i) (l .k) (l .inv m) (turn .loop-test .taken) (sym (closed .before .is-open .ensures) ∙ closed .if1 .left) (c .if2 .taken)
+
+asked : tie.Need-fits-requires Inv-loop μ-loop
+asked c κs =
+    let closed = c .before in
+    let turn = closed .before .before .before .before in
+    let l = turn .before .loop in
+    let m = turn .before .before .before .before .before .pre in
+    two-terms _ _ _ _ _ _ _ _ m _ (l .i) (l .k)
+    (gather-meets (test _ _ _ _ _ _ _ _ m) _ _ _ _ _ _ _ (l .i) (l .k) (l .inv m) (turn .loop-test .taken) (sym (closed .before .is-open .ensures) ∙ closed .if1 .left)
+    (c .if2 .left))
+
+clashes : tie.Need-returns Inv-loop μ-loop
+clashes c m =
+    let met = c .before .before in
+    let closed = met .before in
+    let turn = closed .before .before .before .before in
+    let l = turn .before .loop in
+    let a =
+    gather-meets (test _ _ _ _ _ _ _ _ m) _ _ _ _ _ _ _ (l .i) (l .k) (l .inv m) (turn .loop-test .taken)
+    (sym (closed .before .is-open .ensures) ∙ closed .if1 .left) (met .if2 .left) in
+    sym (agrees-not _ _ _ _ _ _ _ _ m _ (l .i) (l .k) a _ (c .before .fits2 .ensures) (not-true _ (c .if3 .taken)))
+
+ended-3 : tie.Need-skip-requires-3 Inv-loop μ-loop
+ended-3 c κs =
+    let turn = c .before .before .before .before .before .before .before in
+    let walk = turn .before .before .before .before .before .pre .lists .walk in
+    (walk .arities-long, walk .nodes-few, first turn)
+
+later-3 : tie.Need-loop-less-3 Inv-loop μ-loop
+later-3 c =
+    let turn = c .before .before .before .before .before .before .before .before in
+    omega (arith, turn .loop-test .taken, term-passed _ _ _ (first turn) (c .skip3 .result) (c .skip3 .ensures (first turn)))
+
+past-meeting : tie.Need-loop-again-3 Inv-loop μ-loop
+past-meeting c m =
+    let fitting = c .before in
+    let met = fitting .before .before in
+    let closed = met .before in
+    let turn = closed .before .before .before .before in
+    let l = turn .before .loop in
+    let a =
+    gather-meets (test _ _ _ _ _ _ _ _ m) _ _ _ _ _ _ _ (l .i) (l .k) (l .inv m) (turn .loop-test .taken)
+    (sym (closed .before .is-open .ensures) ∙ closed .if1 .left) (met .if2 .left) in
+    meeting-passed (test _ _ _ _ _ _ _ _ m) _ _ _ _ _ _ _ (l .i) (l .k) a _ (c .skip3 .ensures)
+    (agrees-so-far _ _ _ _ _ _ _ _ m _ (l .i) (l .k) a _ (fitting .before .fits2 .ensures) (not-false _ (fitting .if3 .left)))
+
+ends : tie.Need-returns-2 Inv-loop μ-loop
+unfolding agrees
+ends c m = let l = c .before .loop in sym (gather-ends (test _ _ _ _ _ _ _ _ m) _ _ _ _ _ _ _ (l .i) (l .k) (l .inv m) (c .loop-test .left))
+
+pub agrees-spec : {M : Type 1} → statement M
+agrees-spec =
+    tie.close
+    (tie.spec
+    Inv-loop
+    μ-loop
+    holds
+    (λ c. term-within _ _ _ (first (c .before)))
+    (λ c. term-within _ _ _ (other (c .before .before)))
+    (λ c κs. c .before .before .before .before .before .before .before .pre .lists .walk .flags-long)
+    ended
+    ended-2
+    later
+    past-open
+    (λ c. omega (arith, term-within _ _ _ (first (c .before .before .before .before .before))))
+    (λ c. omega (arith, term-within _ _ _ (other (c .before .before .before .before .before))))
+    (λ c. omega arith)
+    enters-both
+    asked
+    clashes
+    ended-3
+    (λ c. omega (arith, term-within _ _ _ (other (c .before .before .before .before .before .before .before .before))))
+    later-3
+    past-meeting
+    ends)
