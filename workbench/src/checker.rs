@@ -1,6 +1,6 @@
-//! An independent checker, written from document 01 and document 02's N2 alone.
+//! An independent checker, written from document 01, document 02's N2 and N4, and for N4 paper 000, alone.
 //!
-//! Trees, vectors and obvious loops; each function cites the sentence of these documents it stands for.
+//! Trees, vectors and obvious loops; each function cites the sentence of these papers it stands for.
 //! Speed is no aim here: see `tuned.rs` for the fast one.
 
 use std::collections::BTreeMap;
@@ -100,9 +100,17 @@ pub struct Form {
 
 // ---------------------------------------------------------------- the three questions
 
+/// Whether an arc leads from a pair with this right to one with this left; all else of the two pairs is no matter.
+pub type Arcs = fn(&Pack, &Term, &Term) -> bool;
+
 /// The check: 0 for accepted, else the number of the refusal.
 pub fn check(pack: &[u8], certificate: &[u8]) -> u32 {
-    match judge(pack, certificate) {
+    check_by(connectable, pack, certificate)
+}
+
+/// The check with these arcs.
+pub fn check_by(arcs: Arcs, pack: &[u8], certificate: &[u8]) -> u32 {
+    match judge(arcs, pack, certificate) {
         Ok(()) => 0,
         Err(number) => number,
     }
@@ -125,15 +133,15 @@ pub fn arc(pack: &[u8], rule: u32, place: u32, other_rule: u32, other_place: u32
 }
 
 /// "Order: 1 for the pack, 1 for the certificate, then the pack .., then the certificate .., then 8, then 9, then each component in turn"
-fn judge(pack: &[u8], certificate: &[u8]) -> Result<(), u32> {
+fn judge(arcs: Arcs, pack: &[u8], certificate: &[u8]) -> Result<(), u32> {
     judge_length(pack, PACK_LIMIT)?;
     judge_length(certificate, CERTIFICATE_LIMIT)?;
     let pack = read_pack(pack)?;
     let components = read_certificate(certificate, &pack)?;
     judge_pair_count(&pack, &components)?;
-    judge_back_arcs(&pack, &components)?;
+    judge_back_arcs(arcs, &pack, &components)?;
     for component in &components {
-        judge_component(&pack, component)?;
+        judge_component(arcs, &pack, component)?;
     }
     Ok(())
 }
@@ -377,31 +385,97 @@ fn named_pair(pack: &Pack, rule: u32, place: u32) -> Result<Pair, u32> {
 
 // ---------------------------------------------------------------- arcs
 
-/// "An arc runs from pair p to pair q if ..", for two pairs of the pack.
+/// "An arc shall now need a unifier, as 000 has it", for two pairs of the pack.
 pub fn arc_runs(pack: &Pack, from: Pair, to: Pair) -> bool {
-    meets(pack, pair_right(pack, from), pair_left(pack, to))
+    connectable(pack, pair_right(pack, from), pair_left(pack, to))
 }
 
-/// "the root of p's right is the root of q's left and each argument of the one *may become* the argument at the same position of the other"
-pub fn meets(pack: &Pack, right: &Term, left: &Term) -> bool {
+/// "the term t is connectable to v if REN(CAP(t)) and v are unifiable" (000, Definition 18); a marked root is no defined
+/// symbol and equals itself alone, so that it stays and is compared first.
+pub fn connectable(pack: &Pack, right: &Term, left: &Term) -> bool {
     match (right, left) {
-        (Term::Apply(f, from), Term::Apply(g, to)) => f == g && all_may_become(pack, from, to),
+        (Term::Apply(f, from), Term::Apply(g, to)) => f == g && unifiable(&all_capped(pack, from), to),
         _ => false,
     }
 }
 
-/// "each argument of u may become that of v"
-fn all_may_become(pack: &Pack, from: &[Term], to: &[Term]) -> bool {
-    from.iter().zip(to).all(|(u, v)| may_become(pack, u, v))
+/// The first fresh variable: no file has one of that number.
+const FRESH: u16 = VARIABLE_LIMIT + 1;
+
+/// "below the marked root"; "REN(t) is always a linear term", so all arguments share the next fresh variable.
+fn all_capped(pack: &Pack, arguments: &[Term]) -> Vec<Term> {
+    let mut next = FRESH;
+    arguments.iter().map(|argument| capped(pack, argument, &mut next)).collect()
 }
 
-/// "u or v is a variable, or u's root is defined, or both have one root symbol and each argument of u may become that of v"
-fn may_become(pack: &Pack, u: &Term, v: &Term) -> bool {
-    match (u, v) {
-        (Term::Variable(_), _) | (_, Term::Variable(_)) => true,
-        (Term::Apply(f, from), Term::Apply(g, to)) => {
-            is_defined(pack, *f) || (f == g && all_may_become(pack, from, to))
+/// REN(CAP(t)): "put a fresh variable for each subterm with a defined root and for each variable occurrence"
+fn capped(pack: &Pack, term: &Term, next: &mut u16) -> Term {
+    match term {
+        Term::Apply(symbol, arguments) if !is_defined(pack, *symbol) => {
+            Term::Apply(*symbol, arguments.iter().map(|argument| capped(pack, argument, next)).collect())
         }
+        _ => fresh_variable(next),
+    }
+}
+
+/// "a second argument which contains the next fresh variable that has not yet been used"
+fn fresh_variable(next: &mut u16) -> Term {
+    let fresh = *next;
+    *next += 1;
+    Term::Variable(fresh)
+}
+
+// ---------------------------------------------------------------- unification
+
+/// The variables that have a value so far; a value may have variables that have one themselves.
+type Bindings<'a> = BTreeMap<u16, &'a Term>;
+
+/// "An arc is denied exactly if no substitution makes the two equal": is there one that makes each of these terms equal
+/// to that of the others at its position? Robinson's algorithm: an equation at a time is taken apart or binds a variable.
+pub fn unifiable(these: &[Term], others: &[Term]) -> bool {
+    let mut equations: Vec<(&Term, &Term)> = these.iter().zip(others).collect();
+    let mut bindings = Bindings::new();
+    while let Some((one, other)) = equations.pop() {
+        match (value(one, &bindings), value(other, &bindings)) {
+            (Term::Variable(x), Term::Variable(y)) if x == y => {}
+            (Term::Variable(x), term) | (term, Term::Variable(x)) => {
+                if occurs(*x, term, &bindings) {
+                    return false;
+                }
+                bindings.insert(*x, term);
+            }
+            (Term::Apply(f, from), Term::Apply(g, to)) => {
+                if f != g {
+                    return false;
+                }
+                equations.extend(from.iter().zip(to));
+            }
+        }
+    }
+    true
+}
+
+/// What the term stands for at its root: a variable without a value, or a symbol with its arguments.
+fn value<'a>(mut term: &'a Term, bindings: &Bindings<'a>) -> &'a Term {
+    while let Some(bound) = variable_of(term).and_then(|variable| bindings.get(&variable)) {
+        term = bound;
+    }
+    term
+}
+
+/// The variable that a term is, none if it applies a symbol.
+fn variable_of(term: &Term) -> Option<u16> {
+    match term {
+        Term::Variable(number) => Some(*number),
+        Term::Apply(..) => None,
+    }
+}
+
+/// The occurs check: no finite term is equal to a term that it stands in.
+fn occurs(variable: u16, term: &Term, bindings: &Bindings) -> bool {
+    match value(term, bindings) {
+        Term::Variable(number) => *number == variable,
+        Term::Apply(_, arguments) => arguments.iter().any(|argument| occurs(variable, argument, bindings)),
     }
 }
 
@@ -502,12 +576,12 @@ fn judge_pair_count(pack: &Pack, components: &[Component]) -> Result<(), u32> {
 }
 
 /// "No arc leads from a component to one with a lower number."
-fn judge_back_arcs(pack: &Pack, components: &[Component]) -> Result<(), u32> {
+fn judge_back_arcs(arcs: Arcs, pack: &Pack, components: &[Component]) -> Result<(), u32> {
     for (number, component) in components.iter().enumerate() {
         for from in &component.pairs {
             let right = pair_right(pack, *from);
             for lower in &components[..number] {
-                let back = lower.pairs.iter().any(|to| meets(pack, right, pair_left(pack, *to)));
+                let back = lower.pairs.iter().any(|to| arcs(pack, right, pair_left(pack, *to)));
                 demand(!back, BACK_ARC)?;
             }
         }
@@ -516,17 +590,17 @@ fn judge_back_arcs(pack: &Pack, components: &[Component]) -> Result<(), u32> {
 }
 
 /// "then each component in turn: 10, or 11 over all rules and its pairs, then 12, then 13", now "weighting by weighting"
-fn judge_component(pack: &Pack, component: &Component) -> Result<(), u32> {
+fn judge_component(arcs: Arcs, pack: &Pack, component: &Component) -> Result<(), u32> {
     if component.is_weighted() {
         judge_weightings(pack, component)
     } else {
-        judge_self_arc(pack, component)
+        judge_self_arc(arcs, pack, component)
     }
 }
 
 /// "A component without a weighting has one pair, and no arc from that pair to itself."
-fn judge_self_arc(pack: &Pack, component: &Component) -> Result<(), u32> {
-    let itself = component.pairs.iter().any(|pair| arc_runs(pack, *pair, *pair));
+fn judge_self_arc(arcs: Arcs, pack: &Pack, component: &Component) -> Result<(), u32> {
+    let itself = component.pairs.iter().any(|pair| arcs(pack, pair_right(pack, *pair), pair_left(pack, *pair)));
     demand(!itself, SELF_ARC)
 }
 

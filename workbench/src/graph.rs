@@ -1,11 +1,11 @@
 //! The arc graph of a pack and its strongly connected groups, for those who look for certificates.
 
-use crate::checker::{meets, pair_left, pair_right, pairs, Pack, Pair};
+use crate::checker::{connectable, pair_left, pair_right, pairs, Pack, Pair};
 use crate::random::Random;
 
 pub struct Graph {
     pub pairs: Vec<Pair>,
-    /// For each pair the rules whose left its right meets; an arc asks for nothing else of the other pair.
+    /// For each pair the rules to whose left its right is connectable; an arc asks for nothing else of the other pair.
     pub rules: Vec<Vec<u16>>,
 }
 
@@ -19,7 +19,7 @@ pub fn graph(pack: &Pack) -> Graph {
 fn met_rules(pack: &Pack, pair: Pair) -> Vec<u16> {
     let right = pair_right(pack, pair);
     let numbers = 0..pack.rules.len() as u16;
-    numbers.filter(|rule| meets(pack, right, pair_left(pack, (*rule, 0)))).collect()
+    numbers.filter(|rule| connectable(pack, right, pair_left(pack, (*rule, 0)))).collect()
 }
 
 impl Graph {

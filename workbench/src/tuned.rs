@@ -6,6 +6,8 @@
 //! with a single number a node: the form's value where every variable is 1, which bounds all its parts.
 //! Only where that bound passes the limit is the form itself looked at.
 //! Of a component with several weightings the pairs still present are kept as a list that only shrinks.
+//! An arc is one walk down both sides. Only where that finds nothing against it, and the left has a variable twice, are
+//! they walked again, and the subterms that one variable meets are laid over each other.
 
 use std::cell::RefCell;
 
@@ -24,6 +26,11 @@ const NO_WEIGHT: u16 = 1_023;
 const CONSTANT: usize = 16;
 const SLOTS: usize = 17;
 const NODES: usize = 4_096;
+/// The most nodes of a side, and the most variables.
+const SIDE: usize = 32;
+const VARIABLES: usize = 16;
+/// The first node of all is a left side's, and no variable's value.
+const NO_NODE: u16 = 0;
 /// The most pairs of a component, and the most weightings.
 const PAIRS: usize = 2_048;
 const WEIGHTINGS: u16 = 8;
@@ -42,6 +49,21 @@ impl Left {
     const NONE: Left = Left { rule: usize::MAX, form: [0; SLOTS] };
 }
 
+/// A bit for each variable of a side, for each that it has twice or more, and whether its nodes are exactly one term.
+struct Side {
+    variables: u16,
+    repeated: u16,
+    whole: bool,
+}
+
+/// The nodes of the right that stand for variables, each of the left's and each loose node of the right.
+struct Values {
+    root: usize,
+    first: [u16; VARIABLES],
+    /// Counted from the root.
+    loose: [u16; SIDE],
+}
+
 /// Everything a check needs; nothing of it is trusted from one check to the next.
 struct Workspace {
     symbols: usize,
@@ -58,6 +80,8 @@ struct Workspace {
     total: [u32; NODES],
     left: [u16; 65],
     right: [u16; 64],
+    /// A bit for each variable that stands twice or more on the left.
+    repeated: [u16; 64],
     /// A bit for each place of the right side that makes a pair.
     places: [u32; 64],
     seen: [u32; 64],
@@ -154,6 +178,7 @@ impl Workspace {
             total: [0; NODES],
             left: [0; 65],
             right: [0; 64],
+            repeated: [0; 64],
             places: [0; 64],
             seen: [0; 64],
             lowest: [0; 64],
@@ -231,17 +256,18 @@ impl Workspace {
         }
         let start = usize::from(self.left[rule]);
         let (middle, end) = (start + left, start + left + right);
-        let (left_variables, left_whole) = self.read_side(records, at + 1, start, middle)?;
-        let (right_variables, right_whole) = self.read_side(records, at + 1 + left, middle, end)?;
-        if !left_whole || !right_whole {
+        let left_side = self.read_side(records, at + 1, start, middle)?;
+        let right_side = self.read_side(records, at + 1 + left, middle, end)?;
+        if !left_side.whole || !right_side.whole {
             return Err(4);
         }
         if usize::from(self.code[start]) >= VARIABLE {
             return Err(5);
         }
-        if right_variables & !left_variables != 0 {
+        if right_side.variables & !left_side.variables != 0 {
             return Err(6);
         }
+        self.repeated[rule] = left_side.repeated;
         self.shape(start, middle);
         self.shape(middle, end);
         self.right[rule] = middle as u16;
@@ -251,12 +277,12 @@ impl Workspace {
         Ok(at + 1 + left + right)
     }
 
-    /// The codes of one side; answers a bit for each variable and whether the nodes are exactly one term.
-    fn read_side(&mut self, records: &[[u8; 8]], at: usize, start: usize, end: usize) -> Result<(u16, bool), u32> {
+    /// The codes of one side; answers what is known of it then.
+    fn read_side(&mut self, records: &[[u8; 8]], at: usize, start: usize, end: usize) -> Result<Side, u32> {
         let nodes = records.get(at..).unwrap_or(&[]);
         let there = nodes.len().min(end - start);
         let limits = [self.symbols as u16, 16];
-        let mut variables = 0u16;
+        let (mut variables, mut repeated) = (0u16, 0u16);
         // Terms still to come; a term that ends early sets the sign for good.
         let (mut open, mut early) = (1i32, 0i32);
         for (record, node) in nodes[..there].iter().zip(start..) {
@@ -271,7 +297,9 @@ impl Workspace {
                 return Err(3);
             }
             let code = usize::from(a) + variable * VARIABLE;
-            variables |= (variable as u16) << (a & 15);
+            let bit = (variable as u16) << (a & 15);
+            repeated |= variables & bit;
+            variables |= bit;
             self.code[node] = code as u8;
             self.slot[node] = if variable == 1 { a as u8 } else { CONSTANT as u8 };
             early |= open - 1;
@@ -280,7 +308,7 @@ impl Workspace {
         if there < end - start {
             return Err(2);
         }
-        Ok((variables, open == 0 && early >= 0))
+        Ok(Side { variables, repeated, whole: open == 0 && early >= 0 })
     }
 
     /// Ends, parents and weight cells of one side that is a term, from its last node to its first.
@@ -354,7 +382,7 @@ impl Workspace {
         }
         let node = usize::from(self.right[rule as usize]) + place as usize;
         let left = usize::from(self.left[other_rule as usize]);
-        Ok(self.code[node] == self.code[left] && self.arguments_meet(node, left))
+        Ok(self.code[node] == self.code[left] && self.connects(node, other_rule as usize))
     }
 
     #[inline(always)]
@@ -362,7 +390,14 @@ impl Workspace {
         (rule as usize) < self.rules && place < 32 && self.places[rule as usize] >> place & 1 == 1
     }
 
-    /// Walks both sides at once; the roots are already known to be one symbol.
+    /// An arc from that node to a pair of the rule; the roots are already known to be one symbol.
+    #[inline(always)]
+    fn connects(&self, right: usize, rule: usize) -> bool {
+        let left = usize::from(self.left[rule]);
+        self.arguments_meet(right, left) && (self.repeated[rule] == 0 || self.meetings_agree(right, rule))
+    }
+
+    /// Walks both sides at once.
     #[inline(always)]
     fn arguments_meet(&self, right: usize, left: usize) -> bool {
         let stop = usize::from(self.after[right & (NODES - 1)]);
@@ -380,6 +415,78 @@ impl Workspace {
             }
         }
         true
+    }
+
+    /// Walks them again, where the walk above comes to its end: do the subterms that each repeated variable meets agree?
+    #[inline(never)]
+    fn meetings_agree(&self, right: usize, rule: usize) -> bool {
+        let mut values = Values { root: right, first: [NO_NODE; VARIABLES], loose: [NO_NODE; SIDE] };
+        let stop = usize::from(self.after[right & (NODES - 1)]);
+        let (mut u, mut v) = (right + 1, usize::from(self.left[rule]) + 1);
+        while u < stop {
+            let (from, to) = (self.code[u & (NODES - 1)], self.code[v & (NODES - 1)]);
+            let loose = self.loose[usize::from(from & 127)] != 0;
+            if !loose && usize::from(to) < VARIABLE {
+                u += 1;
+                v += 1;
+                continue;
+            }
+            // What is loose agrees with all.
+            let counts = !loose && self.repeated[rule] >> (to & 15) & 1 == 1;
+            if counts && !self.agrees_with_first(usize::from(to & 15), u, &mut values) {
+                return false;
+            }
+            u = usize::from(self.after[u & (NODES - 1)]);
+            v = usize::from(self.after[v & (NODES - 1)]);
+        }
+        true
+    }
+
+    /// The first subterm that a variable meets is its value, with which the others must agree.
+    #[inline(always)]
+    fn agrees_with_first(&self, variable: usize, node: usize, values: &mut Values) -> bool {
+        let first = values.first[variable];
+        if first == NO_NODE {
+            values.first[variable] = node as u16;
+            return true;
+        }
+        self.agree(usize::from(first), node, values)
+    }
+
+    /// Walks both subterms; where the one is loose, the other's part is its value from then on. Each loose node stands
+    /// once on the right, so that nothing can come to stand inside itself.
+    fn agree(&self, one: usize, other: usize, values: &mut Values) -> bool {
+        let stop = usize::from(self.after[other & (NODES - 1)]);
+        let (mut u, mut v) = (one, other);
+        while v < stop {
+            let (from, to) = (self.code[u & (NODES - 1)], self.code[v & (NODES - 1)]);
+            let loose = (self.loose[usize::from(from & 127)], self.loose[usize::from(to & 127)]);
+            if loose == (0, 0) {
+                if from != to {
+                    return false;
+                }
+                u += 1;
+                v += 1;
+                continue;
+            }
+            if loose.1 == 0 && !self.agrees_with_value(u, v, values) {
+                return false;
+            }
+            u = usize::from(self.after[u & (NODES - 1)]);
+            v = usize::from(self.after[v & (NODES - 1)]);
+        }
+        true
+    }
+
+    /// The same for a loose node.
+    fn agrees_with_value(&self, loose: usize, node: usize, values: &mut Values) -> bool {
+        let at = (loose - values.root) & (SIDE - 1);
+        let value = values.loose[at];
+        if value == NO_NODE {
+            values.loose[at] = node as u16;
+            return true;
+        }
+        self.agree(usize::from(value), node, values)
     }
 
     // ------------------------------------------------------------ the certificate
@@ -477,7 +584,7 @@ impl Workspace {
         let mut rule = self.first_rule[usize::from(self.code[node] & 63)];
         while rule != NO_RULE {
             let other = usize::from(rule & 63);
-            if self.lowest[other] < number && self.arguments_meet(node, usize::from(self.left[other])) {
+            if self.lowest[other] < number && self.connects(node, other) {
                 return true;
             }
             rule = self.next_rule[other];
@@ -536,8 +643,8 @@ impl Workspace {
 
     fn judge_self_arc(&self, word: u64) -> Result<(), u32> {
         let node = self.pair_node(word);
-        let left = usize::from(self.left[usize::from(a_of(word) & 63)]);
-        if self.code[node] == self.code[left] && self.arguments_meet(node, left) {
+        let rule = usize::from(a_of(word) & 63);
+        if self.code[node] == self.code[usize::from(self.left[rule])] && self.connects(node, rule) {
             return Err(10);
         }
         Ok(())
