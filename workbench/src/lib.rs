@@ -11,6 +11,7 @@ pub mod implementation;
 #[cfg(feature = "library")]
 pub mod library;
 pub mod random;
+pub mod reach;
 pub mod renumber;
 pub mod report;
 pub mod search;

@@ -4,10 +4,11 @@
 //! the tuned one, or against the library if that is compiled in.
 
 use std::process::ExitCode;
-use workbench::checker::WEIGHTING_LIMIT;
+use workbench::checker::{judge_pack, pair_left, pair_right, Pack, BACK_ARC, SELF_ARC, WEIGHTING_LIMIT};
 use workbench::generate::texts::TextQuestion;
 use workbench::generate::{case, Case};
 use workbench::implementation::{by_name, Implementation};
+use workbench::reach::{arc_by_reach, check_by_reach, has_repeated_variable};
 use workbench::report::{number, run, say, Arguments, Failure};
 use workbench::text::{disassemble_certificate, disassemble_pack};
 
@@ -16,6 +17,9 @@ const USAGE: &str = "compare [count] [seed] [one] [other]; \
 const COUNT: u64 = 200_000;
 const SEED: u64 = 1;
 const OTHER: &str = if cfg!(feature = "library") { "library" } else { "tuned" };
+
+/// What an arc question between two pairs of the pack is answered where no arc runs.
+const NO: (u32, u32) = (0, 0);
 
 /// What stands in a lent list or buffer before the call.
 const PATTERN: u8 = 0xA7;
@@ -33,6 +37,26 @@ struct Counts {
     yes: u64,
     /// Accepted certificates by the most weightings of one component.
     weightings: [u64; 1 + WEIGHTING_LIMIT as usize],
+    unifier: Unifier,
+}
+
+/// How often a unifier is asked for where document 01's own arcs need none.
+#[derive(Default)]
+struct Unifier {
+    /// Packs with a variable twice on a left side.
+    packs: u64,
+    /// Arc questions answered no for want of a unifier.
+    arcs: u64,
+    /// Checks that document 01's own arcs would end with 9, and those with 10.
+    back: Spared,
+    itself: Spared,
+}
+
+/// Checks that get another answer, and those of them that accept.
+#[derive(Default)]
+struct Spared {
+    all: u64,
+    accepted: u64,
 }
 
 fn main() -> ExitCode {
@@ -100,12 +124,19 @@ fn compare(
     if answers.0 == 0 {
         counts.weightings[most_weightings(&case.certificate)] += 1;
     }
+    let repeated = judge_pack(&case.pack).ok().filter(has_repeated_variable);
+    if repeated.is_some() {
+        counts.unifier.packs += 1;
+        counts.unifier.count_check(case, answers.0);
+    }
     compare_lists(one, other, case, counts)?;
     for question in &case.questions {
         let answers = (one.arc(&case.pack, *question), other.arc(&case.pack, *question));
         same(&format!("arc {question:?}"), answers.0, answers.1)?;
         count(&mut counts.arcs, answers.0 .0);
         counts.yes += u64::from(answers.0 .1 == 1);
+        let denied = repeated.as_ref().filter(|_| answers.0 == NO);
+        counts.unifier.arcs += u64::from(denied.is_some_and(|pack| reaches(pack, *question)));
     }
     for question in &case.texts {
         compare_texts(one, other, question, counts)?;
@@ -162,6 +193,12 @@ fn same<T: PartialEq + std::fmt::Debug>(what: &str, one: T, other: T) -> Result<
     }
 }
 
+/// Does document 01's own arc run between these two pairs of the pack?
+fn reaches(pack: &Pack, question: [u32; 4]) -> bool {
+    let [rule, place, other_rule, other_place] = question.map(|number| number as u16);
+    arc_by_reach(pack, pair_right(pack, (rule, place)), pair_left(pack, (other_rule, other_place)))
+}
+
 /// The most weightings that one component of an accepted certificate has.
 fn most_weightings(certificate: &[u8]) -> usize {
     let (records, _) = certificate.as_chunks::<8>();
@@ -183,6 +220,30 @@ fn show(case: &Case) {
     }
 }
 
+impl Unifier {
+    /// Every arc here is one there, so that only an answer past 9 can be another one there.
+    fn count_check(&mut self, case: &Case, answer: u32) {
+        if (1..=BACK_ARC).contains(&answer) {
+            return;
+        }
+        let spared = match check_by_reach(&case.pack, &case.certificate) {
+            BACK_ARC => &mut self.back,
+            SELF_ARC if answer != SELF_ARC => &mut self.itself,
+            _ => return,
+        };
+        spared.all += 1;
+        spared.accepted += u64::from(answer == 0);
+    }
+
+    fn print(&self) {
+        say(format_args!("{} packs have a variable twice on a left side", self.packs));
+        say(format_args!("{} arc questions are answered no for want of a unifier alone", self.arcs));
+        for (number, Spared { all, accepted }) in [(BACK_ARC, &self.back), (SELF_ARC, &self.itself)] {
+            say(format_args!("{all} checks are not {number} for want of a unifier alone, {accepted} of them accepted"));
+        }
+    }
+}
+
 impl Counts {
     fn print(&self) {
         say(format_args!("{:>6} {:>9} {:>9} {:>9} {:>9}", "answer", "checks", "lists", "arcs", "texts"));
@@ -193,5 +254,6 @@ impl Counts {
         say(format_args!("{} of the arc answers 0 are yes, {} no", self.yes, self.arcs[0] - self.yes));
         let accepted: Vec<String> = self.weightings.iter().map(u64::to_string).collect();
         say(format_args!("accepted with at most 0, 1, 2 .. weightings in a component: {}", accepted.join(" ")));
+        self.unifier.print();
     }
 }
