@@ -3,6 +3,7 @@
 pub mod lexicographic;
 pub mod limits;
 pub mod packs;
+pub mod repeated;
 pub mod spoil;
 pub mod texts;
 pub mod weightings;
@@ -39,7 +40,7 @@ pub fn case(seed: u64) -> Case {
     let (mut pack, mut certificate) = match family {
         _ if random.chance(family.kept()) => files(&base),
         Family::SeveralWeightings => spoilt_weightings(random, &mut base),
-        Family::Usual | Family::NearLimit => spoilt_files(random, &mut base),
+        Family::Usual | Family::NearLimit | Family::Repeated => spoilt_files(random, &mut base),
     };
     // No room behind the last byte, so that a memory checker sees every read past it.
     pack.shrink_to_fit();
@@ -56,6 +57,7 @@ enum Family {
     Usual,
     NearLimit,
     SeveralWeightings,
+    Repeated,
 }
 
 impl Family {
@@ -66,17 +68,23 @@ impl Family {
             // Nearly all spoils would bring them away from the limit of forms.
             Family::NearLimit => 75,
             Family::SeveralWeightings => 30,
+            Family::Repeated => 60,
         }
     }
 }
 
 /// Percent of the bases that are made for several weightings.
 const SEVERAL: usize = 15;
+/// Percent of the others that are made for variables that stand twice on a left side.
+const REPEATED: usize = 20;
 
 /// A base of a size by chance; great ones are rare, as they take long.
 fn some_base(random: &mut Random) -> (Base, Family) {
     if random.chance(SEVERAL) {
         return (several_base(random), Family::SeveralWeightings);
+    }
+    if random.chance(REPEATED) {
+        return (repeated::repeated(random), Family::Repeated);
     }
     let base = match random.below(1_000) {
         0..=234 => packs::guided(random, Size::Tiny),
