@@ -1,7 +1,8 @@
-//! The slowest accepted files known, for the benchmark: many arc questions, many weights; and the deepest ones.
+//! The slowest files known, for the benchmark: many arc questions, many meetings of one variable, many weights; and the
+//! deepest ones.
 
 use crate::checker::{pairs, Component, Pack, Pair, Rule, Term, Weighting, Weights};
-use crate::checker::{HEAVY, NODE_LIMIT, PAIR_STAYS, RULE_RISES, WEIGHTING_LIMIT};
+use crate::checker::{ARITY_LIMIT, HEAVY, NODE_LIMIT, PAIR_STAYS, RULE_LIMIT, RULE_RISES, SELF_ARC, WEIGHTING_LIMIT};
 use crate::generate::packs::Base;
 
 fn apply(symbol: u16, arguments: Vec<Term>) -> Term {
@@ -39,6 +40,57 @@ fn arcs_of(depth: usize, calls: usize) -> Base {
     let places = (0..calls).map(|call| (1 + call * (depth + 1)) as u16);
     let components = places.flat_map(|place| (0..64).map(move |rule| unweighted((rule, place)))).collect();
     Base { pack, components }
+}
+
+// ---------------------------------------------------------------- meetings
+
+/// Symbols of the packs below; a bunch has as many arguments as can be.
+const A: u16 = 0;
+const B: u16 = 1;
+const BUNCH: u16 = 2;
+const F: u16 = 3;
+const H: u16 = 4;
+/// Bunches of such a side, and arguments of f beside them: with the root and f's other argument that is all its nodes.
+const BUNCHES: usize = 3;
+const BESIDE: usize = 3;
+/// The place of f's other argument on such a side.
+const OTHER: u16 = 1 + BUNCHES as u16 * (ARITY_LIMIT + 1);
+
+/// The slowest arc question known, with as many rules as can be: a variable meets a term as often as it can, and no two of
+/// these differ, so that nothing ends it early. Every rule is the same, and an arc runs from every pair to every pair.
+pub fn agreeing(rules: usize) -> Base {
+    let (x, a) = (Term::Variable(0), apply(A, vec![]));
+    let left = bunched(&x, x.clone(), x.clone());
+    let right = bunched(&a, a.clone(), a.clone());
+    Base { pack: bunched_pack(vec![Rule { left, right }; rules]), components: Vec::new() }
+}
+
+/// Every pair's right walks to the end of every left of its root, and only the last of the terms that x meets clashes with
+/// the others; no arc at all.
+pub fn clashing() -> Base {
+    let (x, a) = (Term::Variable(0), apply(A, vec![]));
+    let left = bunched(&x, Term::Variable(1), x.clone());
+    let right = bunched(&a, apply(H, vec![]), apply(B, vec![]));
+    let count = RULE_LIMIT - 1;
+    let mut rules = vec![Rule { left, right }; count];
+    rules.push(Rule { left: apply(H, vec![]), right: a });
+    // The calls of h come first, so that each call of f asks for all rules.
+    let components =
+        [OTHER, 0].into_iter().flat_map(|place| (0..count as u16).map(move |rule| unweighted((rule, place))));
+    Base { pack: bunched_pack(rules), components: components.collect() }
+}
+
+fn bunched_pack(rules: Vec<Rule>) -> Pack {
+    Pack { arities: vec![0, 0, ARITY_LIMIT, (BUNCHES + 1 + BESIDE) as u16, 0], rules }
+}
+
+/// f over bunches of a term, its other argument, the same term, and at the end a last one.
+fn bunched(term: &Term, other: Term, last: Term) -> Term {
+    let mut arguments = vec![apply(BUNCH, vec![term.clone(); usize::from(ARITY_LIMIT)]); BUNCHES];
+    arguments.push(other);
+    arguments.extend(vec![term.clone(); BESIDE - 1]);
+    arguments.push(last);
+    apply(F, arguments)
 }
 
 // ---------------------------------------------------------------- weights
@@ -174,6 +226,9 @@ pub fn deep() -> Vec<Deep> {
         all.extend(deep_over_nothing(width));
     }
     all.push(deep_calls());
+    for depth in [1, 7, 14] {
+        all.extend([(0, 0), (1, SELF_ARC)].map(|(last, number)| deep_meetings(depth, last, number)));
+    }
     all
 }
 
@@ -209,6 +264,19 @@ fn deep_calls() -> Deep {
     let right = chain(1, NODES - 1, Term::Variable(0));
     let base = weighted(vec![1, 1], Rule { left, right }, 1, |_| component(&[]));
     Deep { name: "deep calls".to_string(), base, number: PAIR_STAYS }
+}
+
+/// Two terms so deep meet one variable as deep below the root as can be; they have this constant and constant 1 at their
+/// ends. Symbols: 0 and 1 constants, 2 s, 3 c with two arguments, 4 f.
+fn deep_meetings(depth: usize, last: u16, number: u32) -> Deep {
+    let end = |constant: u16| chain(2, depth, apply(constant, vec![]));
+    // f, c and two constants beside the shells.
+    let shells = NODES - 4 - 2 * depth;
+    let side = |one: Term, other: Term| apply(4, vec![chain(2, shells, apply(3, vec![one, other]))]);
+    let rule = Rule { left: side(Term::Variable(0), Term::Variable(0)), right: side(end(1), end(last)) };
+    let base =
+        Base { pack: Pack { arities: vec![0, 0, 1, 2, 1], rules: vec![rule] }, components: vec![unweighted((0, 0))] };
+    Deep { name: format!("deep, meetings of {depth} nodes, {number}"), base, number }
 }
 
 fn deep_file(aim: &str, width: u16, leaf: &Term, rule: &Rule, weights: Component, number: u32) -> Deep {

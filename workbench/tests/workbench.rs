@@ -123,10 +123,19 @@ fn groups_are_ordered() {
 /// The benchmark's slowest files are accepted, else they would end early.
 #[test]
 fn slow_files_are_accepted() {
-    let bases =
-        [slow::arcs(2), slow::arcs(6), slow::arcs(30), slow::chains(437, true), slow::wide(384), slow::brink(335)];
-    for base in bases.into_iter().chain((1..=8).map(slow::weightings)) {
+    let arcs = [slow::arcs(2), slow::arcs(6), slow::arcs(30), slow::clashing()];
+    let weights = [slow::chains(437, true), slow::wide(384), slow::brink(335)];
+    for base in arcs.into_iter().chain(weights).chain((1..=8).map(slow::weightings)) {
         assert_eq!(tuned::check(&encode::pack_bytes(&base.pack), &encode::certificate_bytes(&base.components)), 0);
+    }
+}
+
+/// The deepest files get the numbers they are made for.
+#[test]
+fn deep_files_get_their_numbers() {
+    for slow::Deep { name, base, number } in slow::deep() {
+        let files = (encode::pack_bytes(&base.pack), encode::certificate_bytes(&base.components));
+        assert_eq!((checker::check(&files.0, &files.1), tuned::check(&files.0, &files.1)), (number, number), "{name}");
     }
 }
 

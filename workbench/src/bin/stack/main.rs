@@ -11,7 +11,7 @@ mod painted;
 use painted::Stack;
 use std::path::Path;
 use std::process::ExitCode;
-use workbench::checker::{judge_pack, pairs, PACK_LIMIT};
+use workbench::checker::{judge_pack, pairs, PACK_LIMIT, RULE_LIMIT};
 use workbench::encode::{certificate_bytes, pack_bytes};
 use workbench::files::read;
 use workbench::generate::packs::{dense, dense_in_two, Base};
@@ -109,6 +109,8 @@ fn slow_files() -> Vec<File> {
         ("arcs, walks of 6 nodes", slow::arcs(6)),
         ("arcs, walks of 30 nodes", slow::arcs(30)),
         ("few arcs", slow::few_arcs(8)),
+        ("meetings that agree", slow::agreeing(RULE_LIMIT)),
+        ("meetings that clash", slow::clashing()),
         ("chains, weights differ", slow::chains(437, true)),
         ("chains, weights equal", slow::chains(437, false)),
         ("wide", slow::wide(384)),
