@@ -4,12 +4,12 @@
 //! A busy machine spoils ratios too: run it twice and trust only what stays.
 //! `bench [rounds]`: more rounds, steadier ratios (20 by default); texts in times of the plain reader.
 //! `bench --before [rounds]`: the same rows, of the library in times of an older one that `./bench --before` links,
-//! each summed over the copies of it.
+//! each summed over the copies of it, without the questions that the older one answers otherwise.
 
 use std::hint::black_box;
 use std::process::ExitCode;
 use std::time::{Duration, Instant};
-use workbench::checker::{is_defined, judge_pack, pairs, PACK_LIMIT};
+use workbench::checker::{is_defined, judge_pack, pairs, PACK_LIMIT, RULE_LIMIT};
 use workbench::encode::{certificate_bytes, pack_bytes};
 use workbench::examples::{checks, default_folder};
 use workbench::generate::lexicographic::of_levels;
@@ -42,9 +42,15 @@ struct File {
     question: [u32; 4],
 }
 
-/// What is measured: asks one implementation everything, and tells each number that it answers.
-type Job<'a> = &'a dyn Fn(&dyn Implementation, Tell);
-type Tell<'a> = &'a mut dyn FnMut(u32);
+/// What is measured: questions, and how they are put to one implementation, which tells each answer.
+struct Job<'a, T> {
+    questions: Vec<&'a T>,
+    ask: fn(&dyn Implementation, &[&T], Tell),
+}
+
+type Tell<'a> = &'a mut dyn FnMut(Answer);
+/// The number, and the count, the length or the yes that comes with it.
+type Answer = (u32, u32);
 
 struct Bench {
     implementations: Vec<Copies>,
@@ -70,16 +76,20 @@ fn bench(arguments: Arguments) -> Result<(), Failure> {
     bench.header("check");
     let (workloads, examples) = (workloads(), [examples()?]);
     for workload in workloads.iter().chain(&examples) {
-        bench.ratios(&workload.name, &|one, tell| check_all(one, workload, tell));
+        bench.ratios(&workload.name, job(&workload.files, check_all));
     }
     bench.weightings();
     bench.header("\nlist");
     for workload in workloads.iter().take(4).chain(&examples) {
-        bench.ratios(&workload.name, &|one, tell| list_all(one, workload, tell));
+        bench.ratios(&workload.name, job(&workload.files, list_all));
     }
     bench.header("\narc question");
-    for workload in workloads.iter().take(7).chain(&examples) {
-        bench.ratios(&workload.name, &|one, tell| ask_all(one, workload, tell));
+    let meetings = [
+        workload("28 meetings of one variable", [slow::agreeing(RULE_LIMIT)]),
+        workload("the same, a single rule", [slow::agreeing(1)]),
+    ];
+    for workload in workloads.iter().take(7).chain(&meetings).chain(&examples) {
+        bench.ratios(&workload.name, job(&workload.files, ask_all));
     }
     let readers = Bench { implementations: readers(before)?, rounds, before };
     // An older library that reads no texts is no measure, nor is the plain reader for itself.
@@ -143,6 +153,7 @@ fn workloads() -> Vec<Workload> {
         workload("arcs: walks of 2 nodes", [slow::arcs(2)]),
         workload("arcs: walks of 6 nodes", [slow::arcs(6)]),
         workload("arcs: walks of 30 nodes", [slow::arcs(30)]),
+        workload("arcs: the last of 27 meetings", [slow::clashing()]),
         workload("weights: chains, all differ", [slow::chains(437, true)]),
         workload("weights: chains, all equal", [slow::chains(437, false)]),
         workload("weights: 16 variables", [slow::wide(384)]),
@@ -219,29 +230,34 @@ fn worst_texts() -> Vec<Texts> {
 
 // ---------------------------------------------------------------- jobs
 
-fn check_all(one: &dyn Implementation, workload: &Workload, tell: Tell) {
-    for file in &workload.files {
-        tell(one.check(black_box(&file.pack), black_box(&file.certificate)));
+/// All of these questions.
+fn job<T>(questions: &[T], ask: fn(&dyn Implementation, &[&T], Tell)) -> Job<'_, T> {
+    Job { questions: questions.iter().collect(), ask }
+}
+
+fn check_all(one: &dyn Implementation, files: &[&File], tell: Tell) {
+    for file in files {
+        tell((one.check(black_box(&file.pack), black_box(&file.certificate)), 0));
     }
 }
 
-fn list_all(one: &dyn Implementation, workload: &Workload, tell: Tell) {
+fn list_all(one: &dyn Implementation, files: &[&File], tell: Tell) {
     let mut list = [0; 2_048 * 8];
-    for file in &workload.files {
-        tell(one.list(black_box(&file.pack), &mut list).0);
+    for file in files {
+        tell(one.list(black_box(&file.pack), &mut list));
     }
 }
 
-fn ask_all(one: &dyn Implementation, workload: &Workload, tell: Tell) {
-    for file in &workload.files {
-        tell(one.arc(black_box(&file.pack), black_box(file.question)).0);
+fn ask_all(one: &dyn Implementation, files: &[&File], tell: Tell) {
+    for file in files {
+        tell(one.arc(black_box(&file.pack), black_box(file.question)));
     }
 }
 
-fn read_all(one: &dyn Implementation, texts: &[Vec<u8>], tell: Tell) {
+fn read_all(one: &dyn Implementation, texts: &[&Vec<u8>], tell: Tell) {
     let mut pack = [0; PACK_LIMIT];
     for text in texts {
-        tell(one.read_text(black_box(text), &mut pack).map_or(0, |answer| answer.0));
+        tell(one.read_text(black_box(text), &mut pack).unwrap_or_default());
     }
 }
 
@@ -261,23 +277,31 @@ impl Bench {
     }
 
     /// One line: all in times of the tuned one, or of the first where that is missing, or the library in times of the
-    /// one before; no line where that one answers otherwise, as it is no measure then. Answers the times.
-    fn ratios(&self, name: &str, job: Job) -> Vec<Duration> {
-        if self.before && !self.agree(job) {
+    /// one before; no line where no question is left. Answers the times.
+    fn ratios<T>(&self, name: &str, mut job: Job<T>) -> Vec<Duration> {
+        if self.before {
+            self.leave_out(name, &mut job);
+        }
+        if job.questions.is_empty() {
             return Vec::new();
         }
-        let times = self.measure(job);
+        let times = self.measure(&job);
         let unit = if self.before { "before" } else { "tuned" };
         let unit = times[self.implementations.iter().position(|copies| copies[0].name() == unit).unwrap_or(0)];
-        self.line(name, times.iter().take(self.shown()).map(|time| Some(time.div_duration_f64(unit))), job);
+        self.line(name, times.iter().take(self.shown()).map(|time| Some(time.div_duration_f64(unit))), &job);
         times
     }
 
-    /// Does the one before give each answer of the library?
-    fn agree(&self, job: Job) -> bool {
-        let mut answers = self.implementations.iter().flatten().map(|one| answers_of(one.as_ref(), job));
-        let first = answers.next();
-        answers.all(|all| Some(all) == first)
+    /// Without the questions that the one before answers otherwise, as it is no measure there; one line says how many.
+    fn leave_out<T>(&self, name: &str, job: &mut Job<T>) {
+        let answers: Vec<_> = self.implementations.iter().flatten().map(|one| answers_of(one.as_ref(), job)).collect();
+        let same = |at: usize| answers.iter().all(|all| all[at] == answers[0][at]);
+        let (all, mut at) = (job.questions.len(), 0..);
+        job.questions.retain(|_| at.next().is_some_and(same));
+        let out = all - job.questions.len();
+        if out > 0 {
+            say(format_args!("{name}: left out {out} of {all} questions, which the one before answers otherwise"));
+        }
     }
 
     /// Eight weightings in times of one, for the same pack, by the library.
@@ -288,7 +312,7 @@ impl Bench {
         };
         let time = |count: usize| {
             let workload = workload("weightings", [slow::weightings(count)]);
-            self.measure(&|one, tell| check_all(one, &workload, tell))[library]
+            self.measure(&job(&workload.files, check_all))[library]
         };
         let ratio = time(8).div_duration_f64(time(1));
         say(format_args!("\nlibrary: eight weightings in times of one, for the same pack: {ratio:.2}"));
@@ -297,7 +321,7 @@ impl Bench {
     /// One line a text, in times of the plain reader; and the worst text in times of an ordinary one, by the library.
     fn texts(&self) {
         self.header("\nread text");
-        let row = |texts: &Texts| self.ratios(&texts.name, &|one, tell| read_all(one, &texts.texts, tell));
+        let row = |texts: &Texts| self.ratios(&texts.name, job(&texts.texts, read_all));
         let ordinary = ordinary_texts().each_ref().map(row);
         let worst: Vec<Vec<Duration>> = worst_texts().iter().map(row).collect();
         if let (false, Some(unit)) = (self.before, ordinary[1].last()) {
@@ -313,34 +337,36 @@ impl Bench {
         let mut above: Vec<Option<Duration>> = vec![None; self.implementations.len()];
         for size in sizes {
             let workload = workload(name, [make(*size)]);
-            let job: Job = &|one, tell| check_all(one, &workload, tell);
+            let job = job(&workload.files, check_all);
             if self.before {
                 self.ratios(&size.to_string(), job);
                 continue;
             }
-            let times = self.measure(job);
+            let times = self.measure(&job);
             let factors = times.iter().zip(&above).map(|(time, above)| above.map(|above| time.div_duration_f64(above)));
-            self.line(&size.to_string(), factors, job);
+            self.line(&size.to_string(), factors, &job);
             above = times.into_iter().map(Some).collect();
         }
         say("");
     }
 
-    fn line(&self, name: &str, numbers: impl Iterator<Item = Option<f64>>, job: Job) {
+    fn line<T>(&self, name: &str, numbers: impl Iterator<Item = Option<f64>>, job: &Job<T>) {
         let numbers: Vec<Option<f64>> = numbers.collect();
         let slower = self.before && numbers.iter().flatten().any(|n| *n > SLOWER);
         let mark = if slower { format!("  over {SLOWER}") } else { String::new() };
         // A hundredth more or less is what the one before is asked for.
         let places = if self.before { 3 } else { 2 };
         let numbers = numbers.iter().map(|n| n.map_or(format!("{:>9}", "-"), |n| format!("{n:>9.places$}")));
-        let all = |copies: &Copies| copies.iter().flat_map(|one| answers_of(one.as_ref(), job)).collect::<Vec<u32>>();
-        let greatest = |copies: &Copies| all(copies).into_iter().max().unwrap_or_default().to_string();
+        let all =
+            |copies: &Copies| copies.iter().flat_map(|one| answers_of(one.as_ref(), job)).collect::<Vec<Answer>>();
+        let greatest =
+            |copies: &Copies| all(copies).into_iter().map(|answer| answer.0).max().unwrap_or_default().to_string();
         let answers: Vec<String> = self.implementations.iter().map(greatest).collect();
         say(format_args!("{name:<34}{}  {}{mark}", numbers.collect::<String>(), answers.join(" ")));
     }
 
     /// The shortest of some rounds, taken in turns so that all meet the same weather; summed over the copies.
-    fn measure(&self, job: Job) -> Vec<Duration> {
+    fn measure<T>(&self, job: &Job<T>) -> Vec<Duration> {
         let longest = |copies: &Copies| vec![Duration::MAX; copies.len()];
         let mut best: Vec<_> = self.implementations.iter().map(longest).collect();
         for _ in 0..self.rounds {
@@ -352,20 +378,20 @@ impl Bench {
     }
 }
 
-/// All numbers that it answers, in their order.
-fn answers_of(one: &dyn Implementation, job: Job) -> Vec<u32> {
+/// All its answers, in their order.
+fn answers_of<T>(one: &dyn Implementation, job: &Job<T>) -> Vec<Answer> {
     let mut answers = Vec::new();
-    job(one, &mut |number| answers.push(number));
+    (job.ask)(one, &job.questions, &mut |answer| answers.push(answer));
     answers
 }
 
 /// Repeats until the clock is fine enough; answers the time of one.
-fn time_of(one: &dyn Implementation, job: Job) -> Duration {
+fn time_of<T>(one: &dyn Implementation, job: &Job<T>) -> Duration {
     let start = Instant::now();
     let mut times = 0;
     while times == 0 || start.elapsed() < Duration::from_millis(1) {
-        job(one, &mut |number| {
-            black_box(number);
+        (job.ask)(one, &job.questions, &mut |answer| {
+            black_box(answer);
         });
         times += 1;
     }
