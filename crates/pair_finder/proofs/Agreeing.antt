@@ -42,7 +42,7 @@ module _ (ar ms ns : List ℕ) (at d u end v : ℕ) (m : Meeting-at ar ms ns at 
   agreeing = record { firsts = m .lists .walk .first; others = m .lists .walk .other; lists = m .lists .walk .lists; known = (m .lists .reaches, refl) }
 
   module _ (answer : Bool) (i k : ℕ) (a : At-meeting test system ar ms ns ns end answer i k) where
-    pub two-terms : Two-terms ar ms ns at i
+    pub two-terms : Two-terms ar ms ns at u i
     two-terms =
         let w = m .lists .walk in
         record {
@@ -58,11 +58,12 @@ module _ (ar ms ns : List ℕ) (at d u end v : ℕ) (m : Meeting-at ar ms ns at 
           first-is = m .is;
           other-is = a .is;
           first-kept = m .kept;
+          first-ends = m .ends;
           other-kept = a .kept;
         }
 
     -- what `fits` said of the two is said of the meeting
-    module _ (r : Bool) (said : (w : Two-terms ar ms ns at i) → r ≡ (not (eqb (getD ns k 0) d) || compatible (w .system) (w .first) (w .other))) where
+    module _ (r : Bool) (said : (w : Two-terms ar ms ns at u i) → r ≡ (not (eqb (getD ns k 0) d) || compatible (w .system) (w .first) (w .other))) where
       met-said : r ≡ (not (eqb (a .variable) (m .variable)) || compatible system (m .term) (a .met))
       unfolding two-terms
       met-said = rw (same-byte (a .variable) (m .variable) (getD ns k 0) d (a .byte) (m .byte)) (said two-terms)
@@ -115,6 +116,16 @@ module _ (ar ms ns : List ℕ) (u end v : ℕ) (w : Reaching ar ms ns u end v) w
           term = a .met;
           is = a .is;
           kept = a .kept;
+          ends =
+              ends
+              (record {
+                system = lists-system;
+                term = a .met;
+                arities-are = w .walk .lists .arities-are;
+                arities-few = w .walk .lists .arities-few;
+                is = a .is;
+                kept = a .kept;
+              });
           variable = a .variable;
           byte = a .byte;
         }

@@ -108,47 +108,35 @@ module _ (b : Bool) (p : System) (ar ms ns os : List ℕ) (end : ℕ) (answer : 
 
 -- TWO TERMS are compared as lists of one element
 
-module _ (ar ms ns : List ℕ) (a b : ℕ) (w : Two-terms ar ms ns a b) where
-  pub term-there : Term-at ar ns a
-  term-there =
+module _ (ar ms ns : List ℕ) (a end b : ℕ) (w : Two-terms ar ms ns a end b) where
+  pub terms-walkable : Walkable ar ms ns ns a end b
+  unfolding flat is-list width well is-term
+  terms-walkable =
       record {
+        arities-long = w .arities-long;
+        flags-long = w .flags-long;
+        nodes-few = w .nodes-few;
+        others-few = w .nodes-few;
         system = w .system;
-        term = w .first;
-        arities-are = w .arities-are;
-        arities-few = w .arities-few;
-        is = w .first-is;
-        kept = w .first-kept;
+        first = cons (w .first) nil;
+        other = cons (w .other) nil;
+        lists =
+            record {
+              arities-are = w .arities-are;
+              arities-few = w .arities-few;
+              flags-are = w .flags-are;
+              list = refl;
+              well-first = and-both (w .first-is) refl;
+              other-list = refl;
+              well-other = and-both (w .other-is) refl;
+              as-many = refl;
+              first-kept = rw (append-nil (flat (w .first))) (w .first-kept);
+              first-ends = rw (append-nil (flat (w .first))) (w .first-ends);
+              other-kept = rw (append-nil (flat (w .other))) (w .other-kept);
+            };
       }
 
-  module _ (end : ℕ) (ends : (s : Term-at ar ns a) → end ≡ a + length (flat (s .term))) where
-    pub terms-walkable : Walkable ar ms ns ns a end b
-    unfolding flat is-list width well is-term term-there
-    terms-walkable =
-        record {
-          arities-long = w .arities-long;
-          flags-long = w .flags-long;
-          nodes-few = w .nodes-few;
-          others-few = w .nodes-few;
-          system = w .system;
-          first = cons (w .first) nil;
-          other = cons (w .other) nil;
-          lists =
-              record {
-                arities-are = w .arities-are;
-                arities-few = w .arities-few;
-                flags-are = w .flags-are;
-                list = refl;
-                well-first = and-both (w .first-is) refl;
-                other-list = refl;
-                well-other = and-both (w .other-is) refl;
-                as-many = refl;
-                first-kept = rw (append-nil (flat (w .first))) (w .first-kept);
-                first-ends = rw (append-nil (flat (w .first))) (ends term-there);
-                other-kept = rw (append-nil (flat (w .other))) (w .other-kept);
-              };
-        }
-
-    pub terms-compared : (r : Bool) → ((v : Walkable ar ms ns ns a end b) → r ≡ may-meet true (v .system) (v .first) (v .other)) →
-        r ≡ compatible (w .system) (w .first) (w .other)
-    unfolding terms-walkable may-meet
-    terms-compared r h = h terms-walkable ∙ and-true _
+  pub terms-compared : (r : Bool) → ((v : Walkable ar ms ns ns a end b) → r ≡ may-meet true (v .system) (v .first) (v .other)) →
+      r ≡ compatible (w .system) (w .first) (w .other)
+  unfolding terms-walkable may-meet
+  terms-compared r h = h terms-walkable ∙ and-true _

@@ -80,8 +80,8 @@ jumps ms b c d = leb 64 d || (is-open ms c || (b && is-defined ms d))
 unfoldable pub enters : (flags : List ℕ) → (both : Bool) → (c d : ℕ) → Bool
 enters ms b c d = eqb c d && not (jumps ms b c d)
 
--- two terms over one system are kept at a and b
-pub record Two-terms (arities flags nodes : List ℕ) (a b : ℕ) : Type 0 where
+-- two terms over one system are kept at a, up to `end`, and at b
+pub record Two-terms (arities flags nodes : List ℕ) (a end b : ℕ) : Type 0 where
   pub arities-long : length arities ≡ symbols-room
   pub flags-long : length flags ≡ symbols-room
   pub nodes-few : length nodes ≤ 65536
@@ -94,6 +94,7 @@ pub record Two-terms (arities flags nodes : List ℕ) (a b : ℕ) : Type 0 where
   pub first-is : is-term system first ≡ true
   pub other-is : is-term system other ≡ true
   pub first-kept : Kept nodes a (flat first)
+  pub first-ends : end ≡ a + length (flat first)
   pub other-kept : Kept nodes b (flat other)
 
 -- two lists of which the first may reach the second
@@ -101,12 +102,13 @@ pub record Reaching (arities flags nodes : List ℕ) (u end v : ℕ) : Type 0 wh
   pub walk : Walkable arities flags nodes nodes u end v
   pub reaches : may-reach (walk .system) (walk .first) (walk .other) ≡ true
 
--- and a term kept at `at` that the variable with the byte d meets
+-- and a term kept from `at` up to the first of them, which the variable with the byte d meets
 pub record Meeting-at (arities flags nodes : List ℕ) (at d u end v : ℕ) : Type 0 where
   pub lists : Reaching arities flags nodes u end v
   pub term : Tree
   pub is : is-term (lists .walk .system) term ≡ true
   pub kept : Kept nodes at (flat term)
+  pub ends : u ≡ at + length (flat term)
   pub variable : ℕ
   pub byte : d ≡ 64 + variable
 

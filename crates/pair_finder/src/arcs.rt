@@ -86,27 +86,27 @@ fn may_meet(
     true
 }
 
-// The terms kept at a and b have a common instance, unless they are met by two variables, whose bytes are given.
+// The terms kept from a to `end` and at b have a common instance, unless two variables, whose bytes are given, meet them.
 fn fits(
     arities: &[u8],
     defined: &[u8],
     nodes: &[u8],
     a: usize,
+    end: usize,
     variable: u8,
     b: usize,
     other: u8,
 ) -> bool
-    requires { ⌜ Two-terms (now arities) (now defined) (now nodes) a b ⌝ }
-    ensures { λ r. ⌜ ((w : Two-terms (now (arities .entry)) (now (defined .entry)) (now (nodes .entry)) a b) → r ≡ (not (eqb other variable) || compatible (w .system) (w .first) (w .other))) ⌝ }
+    requires { ⌜ Two-terms (now arities) (now defined) (now nodes) a end b ⌝ }
+    ensures { λ r. ⌜ ((w : Two-terms (now (arities .entry)) (now (defined .entry)) (now (nodes .entry)) a end b) → r ≡ (not (eqb other variable) || compatible (w .system) (w .first) (w .other))) ⌝ }
 {
     if other != variable {
         return true;
     }
-    let end = terms::skip(arities, nodes, a);
     may_meet(arities, defined, nodes, true, a, end, b)
 }
 
-// The term kept at `at` is compatible with all that its variable, whose byte is `variable`, meets in the two lists.
+// The term kept from `at` to u is compatible with all that its variable, whose byte is `variable`, meets in the two lists.
 fn agrees(
     arities: &[u8],
     defined: &[u8],
@@ -133,7 +133,7 @@ fn agrees(
                 i = i + 1;
                 k = k + 1;
             } else {
-                if !fits(arities, defined, nodes, at, variable, i, d) {
+                if !fits(arities, defined, nodes, at, u, variable, i, d) {
                     return false;
                 }
                 i = terms::skip(arities, nodes, i);
