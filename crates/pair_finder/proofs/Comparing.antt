@@ -1,14 +1,13 @@
 -- The walk that compares two lists: its answer is that of the lists still to be walked, whatever it has passed.
 use mathlib.Core.Path.{_≡_, refl, sym, ap, _∙_}
-use mathlib.Core.Bool.{Bool, true, false, _&&_, _||_, cond, and-assoc, and-true}
+use mathlib.Core.Bool.{Bool, true, false, _&&_, cond, and-assoc, and-true}
 use mathlib.Core.Logic.{⊎-elim}
 use mathlib.Core.List.{List, append-nil}
 use Prim.Native.Nat.{ℕ, _+_, _≤_, _<_}
-use native.Mathlib.Omega.{arith}
-use lib.Dec.{leb, eqb}
+use lib.Dec.{leb}
 use lib.ListN.{length, getD}
-use borrow.Author.Tests.{leb-false, le-leb, lt-leb, ne-eqb, eq-eqb}
-use Rattle.rewriting.specs.Terms.{Tree, var, app, nil, cons, System, is-list, is-term, well, width}
+use borrow.Author.Tests.{leb-false, lt-leb, ne-eqb, eq-eqb}
+use Rattle.rewriting.specs.Terms.{Tree, nil, cons, System, is-list, is-term, well, width}
 use Rattle.rewriting.specs.Pairs.{defined}
 use Rattle.rewriting.proofs.Basics.{and-both, or-cases, or-left, or-right, or-left-false, or-right-false, ors}
 use Rattle.terms.specs.Sides.{flat}

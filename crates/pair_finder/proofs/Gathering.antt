@@ -1,23 +1,22 @@
--- The walk over two lists of which the first may reach the second, for what the variables of the second meet: its answer is F
--- of the meetings still to come, whatever it has passed.
-use mathlib.Core.Path.{_≡_, refl, sym, ap, _∙_}
-use mathlib.Core.Bool.{Bool, true, false, _&&_, _||_, cond}
+-- The walk over two lists of which the first may reach the second, from one meeting of a variable of the second to the next.
+use mathlib.Core.Path.{_≡_, refl, sym, _∙_}
+use mathlib.Core.Bool.{true, false, _&&_, cond}
 use mathlib.Core.List.{List, [], _∷_, _++_, append-assoc}
 use Prim.Native.Nat.{ℕ, _+_, _≤_, _<_}
 use native.Mathlib.Omega.{arith}
-use lib.Dec.{leb, eqb}
+use lib.Dec.{eqb}
 use lib.ListN.{length, getD}
 use borrow.Author.Tests.{leb-false, lt-leb, le-leb, eqb-true}
 use Rattle.rewriting.specs.Terms.{Tree, var, app, nil, cons, System, is-term}
 use Rattle.rewriting.specs.Pairs.{defined}
-use Rattle.rewriting.proofs.Basics.{not-both, and-left, and-right, and-both, or-left-false, or-right-false}
+use Rattle.rewriting.proofs.Basics.{not-both, and-left, and-right, and-both, or-left-false}
 use Rattle.terms.specs.Sides.{flat}
 use Rattle.terms.specs.Kept.{Kept, Term-at}
 use Rattle.terms.proofs.Rests.{joined}
 use Rattle.pairs.specs.Arcs.{may-meet, may-reach, Meeting, a-meeting, meetings}
-use Rattle.pair_finder.specs.Walking.{is-defined, is-open, Two-lists}
+use Rattle.pair_finder.specs.Walking.{is-open, Two-lists}
 use Rattle.pair_finder.proofs.Subterms.{symbol-defined}
-use Rattle.pair_finder.proofs.Walks.{In-step, both-nil, both-cons, To-walk, At-hand, at-hand, first-is, first-kept, rest, walk-ends, walk-skips, Shape, a-variable, a-symbol, shape, first-shape, other-shape, At-symbols, at-symbols, inner-step, walk-enters}
+use Rattle.pair_finder.proofs.Walks.{In-step, both-nil, both-cons, To-walk, At-hand, at-hand, first-is, first-kept, rest, walk-ends, walk-skips, Shape, a-variable, a-symbol, shape, first-shape, other-shape, at-symbols, inner-step, walk-enters}
 use Rattle.pair_finder.proofs.Comparing.{joined-meet}
 
 module _ (p : System) where
@@ -58,91 +57,90 @@ variable-passed ar os k d s = go (shape (s .system) (s .arities-few) os k (s .te
     go (a-variable x e) = refl
     go (a-symbol f ts e l) = absurd (omega arith)
 
--- the first list may reach the other, and the answer is F of what the other's variables meet in it
-abbrev pub Gathered : (List Meeting → Bool) → System → (answer : Bool) → Tree → Tree → Type 0
-Gathered F p r ts us = (may-reach p ts us ≡ true) × (r ≡ F (meetings p ts us))
+-- TO THE NEXT MEETING: the first list may reach the other, and all that is met is met in them
 
-module _ (F : List Meeting → Bool) (p : System) (ar ms ns os : List ℕ) (end : ℕ) (answer : Bool) (i k : ℕ) where
-  -- a variable meets the term kept at i, and what comes after
-  pub record At-meeting : Type 0 where
-    pub variable : ℕ
-    pub byte : getD os k 0 ≡ 64 + variable
-    pub met : Tree
-    pub is : is-term p met ≡ true
-    pub kept : Kept ns i (flat met)
-    pub firsts : Tree
-    pub others : Tree
-    pub lists : (m : ℕ) → ((s : Term-at ar ns i) → m ≡ i + length (flat (s .term))) → Two-lists p ar ms ns os m end (k + 1) firsts others
-    pub reaches : may-reach p firsts others ≡ true
-    pub answered : answer ≡ F (a-meeting variable met ∷ meetings p firsts others)
+abbrev pub Met : System → (all : List Meeting) → Tree → Tree → Type 0
+Met p all ts us = (may-reach p ts us ≡ true) × (all ≡ meetings p ts us)
 
-  module _ (w : To-walk p ar ms ns os end (Gathered F p answer) i k) where
-    -- nothing is left
-    pub gather-ends : end ≤ i → answer ≡ F []
-    unfolding meetings
-    gather-ends h = walk-ends p ar ms ns os end (Gathered F p answer) i k w h .1
+module _ (p : System) (ar ms ns os : List ℕ) (end : ℕ) (all : List Meeting) (i k : ℕ) (w : To-walk p ar ms ns os end (Met p all) i k) where
+  -- nothing is left
+  pub gather-ends : end ≤ i → all ≡ []
+  unfolding meetings
+  gather-ends h = walk-ends p ar ms ns os end (Met p all) i k w h .1
 
-    module _ (l : i < end) where
-      pub hand : At-hand p ar ms ns os end (Gathered F p answer) i k
-      hand = at-hand p ar ms ns os end (Gathered F p answer) i k w l
+  module _ (l : i < end) where
+    hand : At-hand p ar ms ns os end (Met p all) i k
+    hand = at-hand p ar ms ns os end (Met p all) i k w l
 
-      -- past an open place, and what stands there on the other side
-      pub gather-skips : is-open ms (getD ns i 0) ≡ true →
-          (m n : ℕ) → ((s : Term-at ar ns i) → m ≡ i + length (flat (s .term))) → ((s : Term-at ar os k) → n ≡ k + length (flat (s .term))) →
-          To-walk p ar ms ns os end (Gathered F p answer) m n
-      unfolding may-meet meetings
-      gather-skips o m n x y =
-          let h = hand in
-          let none = open-meets p ms (h .lists .flags-are) (h .lists .arities-few) (first-shape p ar ms ns os end (Gathered F p answer) i k h) o (h .other) in
-          walk-skips p ar ms ns os end (Gathered F p answer) i k h m n x y
-          (and-right (may-reach p (h .first) (h .other)) _ (h .known .0), h .known .1 ∙ rw none)
+    -- past an open place, and what stands there on the other side
+    pub gather-skips : is-open ms (getD ns i 0) ≡ true →
+        (m n : ℕ) → ((s : Term-at ar ns i) → m ≡ i + length (flat (s .term))) → ((s : Term-at ar os k) → n ≡ k + length (flat (s .term))) →
+        To-walk p ar ms ns os end (Met p all) m n
+    unfolding may-meet meetings
+    gather-skips o m n x y =
+        let h = hand in
+        let none = open-meets p ms (h .lists .flags-are) (h .lists .arities-few) (first-shape p ar ms ns os end (Met p all) i k h) o (h .other) in
+        walk-skips p ar ms ns os end (Met p all) i k h m n x y
+        (and-right (may-reach p (h .first) (h .other)) _ (h .known .0), h .known .1 ∙ rw none)
 
-      module _ (c : is-open ms (getD ns i 0) ≡ false) where
-        -- into two applications, whose symbols are the same, since the one may reach the other
-        pub gather-enters : getD os k 0 < 64 → To-walk p ar ms ns os end (Gathered F p answer) (i + 1) (k + 1)
-        unfolding is-open may-meet meetings
-        gather-enters d =
-            let s = at-symbols p ar ms ns os end (Gathered F p answer) i k hand (leb-false 64 _ (or-left-false _ _ c)) d in
-            let constructor : defined p (s .f) ≡ false = sym (symbol-open p ms (s .lists .flags-are) (s .lists .arities-few) (s .first-byte) (s .f-small)) ∙ c in
-            let both : (eqb (s .f) (s .g) && may-reach p (s .vs) (s .ws)) && may-reach p (s .ts) (s .us) ≡ true = rw constructor at (s .known .0) in
-            let first = and-left _ _ both in
-            let like = eqb-true (s .f) (s .g) (and-left _ _ first) in
-            let step = inner-step p ar ms ns os end (Gathered F p answer) i k s like in
-            walk-enters p ar ms ns os end (Gathered F p answer) i k s like (
-              rw (joined-meet false p step (s .ts) (s .us)) (and-both (and-right (eqb (s .f) (s .g)) _ first) (and-right (eqb (s .f) (s .g) && may-reach p (s .vs) (s .ws)) _ both)),
-              s .known .1 ∙ rw (constructor, joined-meetings p step (s .ts) (s .us)),
-            )
+    module _ (c : is-open ms (getD ns i 0) ≡ false) where
+      -- into two applications, whose symbols are the same, since the one may reach the other
+      pub gather-enters : getD os k 0 < 64 → To-walk p ar ms ns os end (Met p all) (i + 1) (k + 1)
+      unfolding is-open may-meet meetings
+      gather-enters d =
+          let s = at-symbols p ar ms ns os end (Met p all) i k hand (leb-false 64 _ (or-left-false _ _ c)) d in
+          let constructor : defined p (s .f) ≡ false = sym (symbol-open p ms (s .lists .flags-are) (s .lists .arities-few) (s .first-byte) (s .f-small)) ∙ c in
+          let both : (eqb (s .f) (s .g) && may-reach p (s .vs) (s .ws)) && may-reach p (s .ts) (s .us) ≡ true = rw constructor at (s .known .0) in
+          let first = and-left _ _ both in
+          let like = eqb-true (s .f) (s .g) (and-left _ _ first) in
+          let step = inner-step p ar ms ns os end (Met p all) i k s like in
+          walk-enters p ar ms ns os end (Met p all) i k s like (
+            rw (joined-meet false p step (s .ts) (s .us)) (and-both (and-right (eqb (s .f) (s .g)) _ first) (and-right (eqb (s .f) (s .g) && may-reach p (s .vs) (s .ws)) _ both)),
+            s .known .1 ∙ rw (constructor, joined-meetings p step (s .ts) (s .us)),
+          )
 
-        -- or to a variable that meets an application of a constructor
-        pub gather-meets : 64 ≤ getD os k 0 → At-meeting
-        unfolding may-meet meetings
-        gather-meets d =
-            go (first-shape p ar ms ns os end (Gathered F p answer) i k hand) (other-shape p ar ms ns os end (Gathered F p answer) i k hand)
-            (first-is p ar ms ns os end (Gathered F p answer) i k hand) (first-kept p ar ms ns os end (Gathered F p answer) i k hand) (hand .known)
-          where
-            after : (m : ℕ) → ((s : Term-at ar ns i) → m ≡ i + length (flat (s .term))) → Two-lists p ar ms ns os m end (k + 1) (hand .firsts) (hand .others)
-            after m x = rest p ar ms ns os end (Gathered F p answer) i k hand m (k + 1) x (variable-passed ar os k d)
+-- AT A MEETING: a variable meets the term kept at i, and what comes after
 
-            go : {t u : Tree} → Shape (getD ns i 0) t → Shape (getD os k 0) u → is-term p t ≡ true → Kept ns i (flat t) →
-                Gathered F p answer (cons t (hand .firsts)) (cons u (hand .others)) → At-meeting
-            go {t} {u} (a-variable x e) y is kept known = absurd (not-both _ (variable-open ms x e) c)
-            go {t} {u} (a-symbol f ts e l) (a-symbol g us o m) is kept known = absurd (omega (arith, d, o, m))
-            go {t} {u} (a-symbol f ts e l) (a-variable y o) is kept known =
-                let constructor : defined p f ≡ false = sym (symbol-open p ms (hand .lists .flags-are) (hand .lists .arities-few) e l) ∙ c in
-                record {
-                  variable = y;
-                  byte = o;
-                  met = app f ts;
-                  is = is;
-                  kept = kept;
-                  firsts = hand .firsts;
-                  others = hand .others;
-                  lists = after;
-                  reaches = known .0;
-                  answered = known .1 ∙ rw constructor;
-                }
+pub record At-meeting (p : System) (ar ms ns os : List ℕ) (end : ℕ) (all : List Meeting) (i k : ℕ) : Type 0 where
+  pub variable : ℕ
+  pub byte : getD os k 0 ≡ 64 + variable
+  pub met : Tree
+  pub is : is-term p met ≡ true
+  pub kept : Kept ns i (flat met)
+  pub firsts : Tree
+  pub others : Tree
+  pub lists : (m : ℕ) → ((s : Term-at ar ns i) → m ≡ i + length (flat (s .term))) → Two-lists p ar ms ns os m end (k + 1) firsts others
+  pub reaches : may-reach p firsts others ≡ true
+  pub first-met : all ≡ a-meeting variable met ∷ meetings p firsts others
 
-  -- past a meeting
-  pub meeting-passed : (a : At-meeting) → (m : ℕ) → ((s : Term-at ar ns i) → m ≡ i + length (flat (s .term))) → answer ≡ F (meetings p (a .firsts) (a .others)) →
-      To-walk p ar ms ns os end (Gathered F p answer) m (k + 1)
-  meeting-passed a m x e = record { firsts = a .firsts; others = a .others; lists = a .lists m x; known = (a .reaches, e) }
+module _ (p : System) (ar ms ns os : List ℕ) (end : ℕ) (all : List Meeting) (i k : ℕ) (w : To-walk p ar ms ns os end (Met p all) i k) (l : i < end) where
+  pub gather-meets : is-open ms (getD ns i 0) ≡ false → 64 ≤ getD os k 0 → At-meeting p ar ms ns os end all i k
+  unfolding may-meet meetings
+  gather-meets c d =
+      go (first-shape p ar ms ns os end (Met p all) i k here) (other-shape p ar ms ns os end (Met p all) i k here) (first-is p ar ms ns os end (Met p all) i k here)
+      (first-kept p ar ms ns os end (Met p all) i k here) (here .known)
+    where
+      here : At-hand p ar ms ns os end (Met p all) i k
+      here = at-hand p ar ms ns os end (Met p all) i k w l
+
+      after : (m : ℕ) → ((s : Term-at ar ns i) → m ≡ i + length (flat (s .term))) → Two-lists p ar ms ns os m end (k + 1) (here .firsts) (here .others)
+      after m x = rest p ar ms ns os end (Met p all) i k here m (k + 1) x (variable-passed ar os k d)
+
+      go : {t u : Tree} → Shape (getD ns i 0) t → Shape (getD os k 0) u → is-term p t ≡ true → Kept ns i (flat t) →
+          Met p all (cons t (here .firsts)) (cons u (here .others)) → At-meeting p ar ms ns os end all i k
+      go (a-variable x e) y is kept known = absurd (not-both _ (variable-open ms x e) c)
+      go (a-symbol f ts e l) (a-symbol g us o m) is kept known = absurd (omega (arith, d, o, m))
+      go (a-symbol f ts e l) (a-variable y o) is kept known =
+          let constructor : defined p f ≡ false = sym (symbol-open p ms (here .lists .flags-are) (here .lists .arities-few) e l) ∙ c in
+          record {
+            variable = y;
+            byte = o;
+            met = app f ts;
+            is = is;
+            kept = kept;
+            firsts = here .firsts;
+            others = here .others;
+            lists = after;
+            reaches = known .0;
+            first-met = known .1 ∙ rw constructor;
+          }

@@ -1,24 +1,18 @@
 -- A walk over two argument lists of one length in step: what is still to be walked, and what each turn leaves of it.
-use mathlib.Core.Path.{_≡_, refl, sym, ap, _∙_}
-use mathlib.Core.Bool.{Bool, true, false, _&&_, cond, and-assoc, false≢true}
+use mathlib.Core.Path.{_≡_, sym, ap, _∙_}
+use mathlib.Core.Bool.{true, false≢true}
 use mathlib.Core.List.{List, [], _++_}
 use Prim.Native.Nat.{ℕ, _+_, _≤_, _<_}
 use native.Mathlib.Omega.{arith}
-use lib.Dec.{leb}
 use lib.ListN.{length, getD, length-append}
-use borrow.Author.Tests.{leb-false, lt-leb, ne-eqb, eq-eqb}
 use Rattle.rewriting.specs.Terms.{Tree, var, app, nil, cons, System, width, is-list, is-term, well}
-use Rattle.rewriting.specs.Pairs.{defined}
-use Rattle.rewriting.proofs.Basics.{or-left, ors}
 use Rattle.rewriting.proofs.Trees.{term-not-list, term-well}
 use Rattle.terms.specs.Sides.{variable, symbol, flat}
 use Rattle.terms.specs.Kept.{code, Kept, Term-at}
 use Rattle.terms.proofs.Parsing.{well-app, well-cons, flat-positive}
 use Rattle.terms.proofs.Rests.{joined, joined-flat, joined-list, joined-width, joined-well, kept-first, kept-others}
-use Rattle.pairs.specs.Arcs.{may-reach}
-use Rattle.pair_finder.specs.Walking.{is-defined, jumps, Two-lists}
+use Rattle.pair_finder.specs.Walking.{Two-lists}
 use Rattle.pair_finder.proofs.Kept.{kept-left, kept-right}
-use Rattle.pair_finder.proofs.Subterms.{symbol-defined}
 
 -- TWO LISTS OF ONE LENGTH
 

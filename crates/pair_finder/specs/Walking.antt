@@ -1,12 +1,12 @@
 -- How the code lists pairs and walks two terms, over a pack as it is kept. The contracts between our own functions speak of
 -- it; no promise to a user does.
 use mathlib.Core.Path.{_≡_}
-use mathlib.Core.Bool.{Bool, true, _&&_, _||_, not, cond}
+use mathlib.Core.Bool.{Bool, true, false, _&&_, _||_, not, cond}
 use mathlib.Core.List.{List, [], _∷_, _++_, map}
 use Prim.Native.Nat.{ℕ, zero, suc, _+_, _*_, _≤_, _<_}
 use lib.Dec.{ltb, leb, eqb}
 use lib.ListN.{length, getD, take, drop}
-use Rattle.rewriting.specs.Terms.{Tree, System, rule, is-list, is-term, well, width}
+use Rattle.rewriting.specs.Terms.{Tree, System, is-list, is-term, well, width}
 use Rattle.rewriting.specs.Pairs.{Pair, is-pair, defined}
 use Rattle.records.specs.declared.Answer.{Answer}
 use Rattle.records.specs.Outcomes.{refused, passed}
@@ -14,8 +14,8 @@ use Rattle.records.specs.Answers.{answer-outcome}
 use Rattle.terms.specs.Sides.{flat}
 use Rattle.terms.specs.Kept.{Kept, part, nodes-room, starts-room, symbols-room, Term-at}
 use Rattle.pack_reader.specs.Stored.{Stored}
-use Rattle.pairs.specs.Listing.{a-pair, pairs, pair-bytes}
-use Rattle.pairs.specs.Arcs.{may-reach, reach-arc}
+use Rattle.pairs.specs.Listing.{a-pair, pair-bytes}
+use Rattle.pairs.specs.Arcs.{may-reach, meetings, reach-arc}
 
 -- a node's byte applies a defined symbol
 unfoldable pub is-defined : (flags : List ℕ) → ℕ → Bool
@@ -72,7 +72,7 @@ pub record Walkable (arities flags nodes others : List ℕ) (u end v : ℕ) : Ty
 unfoldable pub is-open : (flags : List ℕ) → (c : ℕ) → Bool
 is-open ms c = leb 64 c || is-defined ms c
 
--- the walk skips a term on either side: the first is open, or the other is a variable or, of both, has a defined root
+-- the walk skips a term on either side: the first is open, or the other is a variable or, where `both` are open there, has a defined root
 unfoldable pub jumps : (flags : List ℕ) → (both : Bool) → (c d : ℕ) → Bool
 jumps ms b c d = leb 64 d || (is-open ms c || (b && is-defined ms d))
 
@@ -102,7 +102,19 @@ pub record Reaching (arities flags nodes : List ℕ) (u end v : ℕ) : Type 0 wh
   pub walk : Walkable arities flags nodes nodes u end v
   pub reaches : may-reach (walk .system) (walk .first) (walk .other) ≡ true
 
--- and a term kept from `at` up to the first of them, which the variable with the byte d meets
+-- i and k are where a variable of the second, us, first meets a term of the first, ts; or i is the end. What is met is met from
+-- there on
+pub record Next-meeting (p : System) (arities flags nodes : List ℕ) (u end : ℕ) (ts us : Tree) (i k : ℕ) : Type 0 where
+  pub firsts : Tree
+  pub others : Tree
+  pub lists : Two-lists p arities flags nodes nodes i end k firsts others
+  pub reaches : may-reach p firsts others ≡ true
+  pub same : meetings p ts us ≡ meetings p firsts others
+  pub later : u ≤ i
+  pub closed : i < end → is-open flags (getD nodes i 0) ≡ false
+  pub variable : i < end → 64 ≤ getD nodes k 0
+
+-- two lists of which the first may reach the second, and a term kept from `at` up to the first of them, which the variable with the byte d meets
 pub record Meeting-at (arities flags nodes : List ℕ) (at d u end v : ℕ) : Type 0 where
   pub lists : Reaching arities flags nodes u end v
   pub term : Tree

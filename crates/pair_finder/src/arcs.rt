@@ -13,7 +13,7 @@ ghost use Rattle.terms.specs.Kept.{symbols-room};
 ghost use Rattle.pack_reader.specs.Stored.{Stored};
 ghost use Rattle.pairs.specs.Listing.{a-pair};
 ghost use Rattle.pairs.specs.Arcs.{may-meet, compatible, a-meeting, meetings, agrees, all-agree, arc, reach-arc};
-ghost use Rattle.pair_finder.specs.Walking.{is-open, jumps, enters, Walkable, Two-terms, Reaching, Meeting-at, Laid, Arc-asked, Arc-to-asked, Arc-reached, Place-answer};
+ghost use Rattle.pair_finder.specs.Walking.{is-open, jumps, enters, Walkable, Two-terms, Reaching, Next-meeting, Meeting-at, Laid, Arc-asked, Arc-to-asked, Arc-reached, Place-answer};
 
 // A node at which the first term of a walk is open: a variable, or a defined symbol.
 fn is_open(defined: &[u8], c: u8) -> bool
@@ -54,7 +54,8 @@ fn enters(defined: &[u8], both: bool, c: u8, d: u8) -> bool
     !jumps(defined, both, c, d)
 }
 
-// Each argument of the one list, kept from u to `end`, may meet the argument of the other, kept from v on.
+// Each argument of the one list, kept from u to `end`, may meet the argument of the other, kept from v on; defined roots leave
+// a term of the first list open, and of `both` one of the other list too.
 fn may_meet(
     arities: &[u8],
     defined: &[u8],
@@ -86,7 +87,8 @@ fn may_meet(
     true
 }
 
-// The terms kept from a to `end` and at b have a common instance, unless two variables, whose bytes are given, meet them.
+// Two variables, whose bytes are given, are not the same, or the terms that they meet, kept from a to `end` and at b, have a
+// common instance.
 fn fits(
     arities: &[u8],
     defined: &[u8],
@@ -106,6 +108,43 @@ fn fits(
     may_meet(arities, defined, nodes, true, a, end, b)
 }
 
+// Two places among the nodes: one in the first list of a walk, and one in the other.
+struct Places {
+    first: usize,
+    other: usize,
+}
+
+// Where in the two lists, kept from u to `end` and from v on, a variable of the second first meets a term that is not open; `end`
+// where none does.
+fn next_meeting(
+    arities: &[u8],
+    defined: &[u8],
+    nodes: &[u8],
+    u: usize,
+    end: usize,
+    v: usize,
+) -> Places
+    requires { ⌜ Reaching (now arities) (now defined) (now nodes) u end v ⌝ }
+    ensures { λ r. ⌜ ((w : Reaching (now (arities .entry)) (now (defined .entry)) (now (nodes .entry)) u end v) → Next-meeting (w .walk .system) (now (arities .entry)) (now (defined .entry)) (now (nodes .entry)) u end (w .walk .first) (w .walk .other) (r .first) (r .other)) ⌝ }
+{
+    let mut i = u;
+    let mut k = v;
+    while i < end {
+        let c = nodes[i];
+        if is_open(defined, c) {
+            i = terms::skip(arities, nodes, i);
+            k = terms::skip(arities, nodes, k);
+        } else {
+            if FIRST_VARIABLE <= nodes[k] {
+                return Places { first: i, other: k };
+            }
+            i = i + 1;
+            k = k + 1;
+        }
+    }
+    Places { first: i, other: k }
+}
+
 // The term kept from `at` to u is compatible with all that its variable, whose byte is `variable`, meets in the two lists.
 fn agrees(
     arities: &[u8],
@@ -123,23 +162,26 @@ fn agrees(
     let mut i = u;
     let mut k = v;
     while i < end {
-        let c = nodes[i];
-        let d = nodes[k];
-        if is_open(defined, c) {
-            i = terms::skip(arities, nodes, i);
-            k = terms::skip(arities, nodes, k);
-        } else {
-            if d < FIRST_VARIABLE {
-                i = i + 1;
-                k = k + 1;
-            } else {
-                if !fits(arities, defined, nodes, at, u, variable, i, d) {
-                    return false;
-                }
-                i = terms::skip(arities, nodes, i);
-                k = k + 1;
-            }
+        let met = next_meeting(arities, defined, nodes, i, end, k);
+        let first = met.first;
+        let other = met.other;
+        if end <= first {
+            return true;
         }
+        if !fits(
+            arities,
+            defined,
+            nodes,
+            at,
+            u,
+            variable,
+            first,
+            nodes[other],
+        ) {
+            return false;
+        }
+        i = terms::skip(arities, nodes, first);
+        k = other + 1;
     }
     true
 }
@@ -152,24 +194,28 @@ fn all_agree(arities: &[u8], defined: &[u8], nodes: &[u8], u: usize, end: usize,
     let mut i = u;
     let mut k = v;
     while i < end {
-        let c = nodes[i];
-        let d = nodes[k];
-        if is_open(defined, c) {
-            i = terms::skip(arities, nodes, i);
-            k = terms::skip(arities, nodes, k);
-        } else {
-            if d < FIRST_VARIABLE {
-                i = i + 1;
-                k = k + 1;
-            } else {
-                let next = terms::skip(arities, nodes, i);
-                if !agrees(arities, defined, nodes, i, d, next, end, k + 1) {
-                    return false;
-                }
-                i = next;
-                k = k + 1;
-            }
+        let met = next_meeting(arities, defined, nodes, i, end, k);
+        let first = met.first;
+        let other = met.other;
+        if end <= first {
+            return true;
         }
+        let next = terms::skip(arities, nodes, first);
+        let after = other + 1;
+        if !agrees(
+            arities,
+            defined,
+            nodes,
+            first,
+            nodes[other],
+            next,
+            end,
+            after,
+        ) {
+            return false;
+        }
+        i = next;
+        k = after;
     }
     true
 }
@@ -230,8 +276,8 @@ pub fn arc_to(
     agrees_to(arities, starts, nodes, defined, right, end, other)
 }
 
-// The same where the end is not known yet. It does not call `arc_to`: a function with a single caller is built into it, which
-// keeps the check, the only one here, quick.
+// The same where the end is not known yet. It has the check for its only caller, and does not call `arc_to`, so that it is built
+// in there; that keeps the check quick.
 pub fn arc_from(
     arities: &[u8],
     starts: &[u16],

@@ -88,6 +88,7 @@ pub fn arc_kept(
             ) {
                 Answer::Refused(x) => ArcAnswer::Refused(x),
                 Answer::Passed(_) => {
+                    // Not `arc_from`, which is the check's alone (DECISIONS 89).
                     let end = terms::skip(arities, nodes, right);
                     said(pair_finder::arcs::arc_to(
                         arities,

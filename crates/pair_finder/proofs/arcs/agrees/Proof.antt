@@ -1,16 +1,14 @@
 -- `pair_finder::arcs::agrees` meets its contract. The loop's invariant: the answer is that of the meetings still to come.
-use mathlib.Core.Path.{sym, _∙_}
-use mathlib.Core.Bool.{not}
-use Prim.Native.Nat.{_-_}
+use mathlib.Core.Path.{sym}
+use Prim.Native.Nat.{_-_, _<_}
 use native.Mathlib.Omega.{arith}
 use borrow.Author.Tests.{not-true, not-false}
+use lib.ListN.{length}
 use Rattle.terms.specs.Kept.{Term-at}
 use Rattle.pairs.specs.Arcs.{agrees}
 use Rattle.pair_finder.specs.Walking.{Meeting-at}
-use Rattle.pair_finder.proofs.Kept.{term-within, term-passed}
-use Rattle.pair_finder.proofs.Walks.{at-hand, first-there, other-there}
-use Rattle.pair_finder.proofs.Gathering.{At-meeting, gather-ends, gather-skips, gather-enters, gather-meets, meeting-passed}
-use Rattle.pair_finder.proofs.Agreeing.{test, To-agree, agreeing, two-terms, agrees-not, agrees-so-far}
+use Rattle.pair_finder.proofs.Kept.{term-passed}
+use Rattle.pair_finder.proofs.Agreeing.{owed-at-end, still-reaching, next-later, none-left, meets, owed, other-within, met-there, meeting-passed, test, To-agree, agreeing, two-terms, agrees-not, agrees-so-far}
 use Rattle.pair_finder.proofs.arcs.agrees.Statement.{statement}
 use Rattle.pair_finder.proofs.arcs.agrees.Tie as tie
 
@@ -21,101 +19,81 @@ Inv-loop arities flags nodes at variable u end v i₀ k₀ i k =
 abbrev μ-loop : tie.MeasureT-loop
 μ-loop arities flags nodes at variable u end v i₀ k₀ i k = end - i
 
-holds : tie.Need-loop-holds Inv-loop μ-loop
-holds c m = agreeing _ _ _ _ _ _ _ _ m
+-- a turn, with what it was asked
+abbrev asked : (c : tie.In-loop Inv-loop μ-loop) → let a = c .before .before .before .before .before .args in Meeting-at (a .arities .now) (a .defined .now) (a .nodes .now) (a .at) (a .variable) (a .u) (a .end) (a .v)
+asked c = c .before .before .before .before .before .pre
 
--- in each turn a term is kept at each of the two places
-module _ (c : tie.In-loop Inv-loop μ-loop) where
-  first : Term-at (c .before .before .before .before .before .args .arities .now) (c .before .before .before .before .before .args .nodes .now) (c .before .loop .i)
-  first =
-      let l = c .before .loop in
-      first-there _ _ _ _ _ _ _ _ _ (at-hand _ _ _ _ _ _ _ (l .i) (l .k) (l .inv (c .before .before .before .before .before .pre)) (c .loop-test .taken))
+to-next : tie.Need-next-meeting-requires Inv-loop μ-loop
+to-next c κs = let m = asked c in still-reaching (test _ _ _ _ _ _ _ _ m) (m .lists .walk) _ _ _ (c .before .loop .inv m)
 
-  other : Term-at (c .before .before .before .before .before .args .arities .now) (c .before .before .before .before .before .args .nodes .now) (c .before .loop .k)
-  other =
-      let l = c .before .loop in
-      other-there _ _ _ _ _ _ _ _ _ (at-hand _ _ _ _ _ _ _ (l .i) (l .k) (l .inv (c .before .before .before .before .before .pre)) (c .loop-test .taken))
+none-left-to-meet : tie.Need-returns Inv-loop μ-loop
+unfolding agrees
+none-left-to-meet c m =
+    let turn = c .before .before in
+    sym (none-left (test _ _ _ _ _ _ _ _ m) (m .lists .walk) _ _ _ (turn .before .loop .inv m) _ _ (c .before .next-meeting .ensures) (c .if1 .taken))
+
+-- at a meeting a term is kept at each of the two places
+module _ (c : tie.Else1 Inv-loop μ-loop) where
+  within : c .before .next-meeting .result .other < length (c .before .before .before .before .before .before .before .args .nodes .now)
+  within =
+      let turn = c .before .before in
+      let m = asked turn in
+      other-within (test _ _ _ _ _ _ _ _ m) (m .lists .walk) _ _ _ (turn .before .loop .inv m) _ _ (c .before .next-meeting .ensures) (c .if1 .left)
+
+  term : Term-at (c .before .before .before .before .before .before .before .args .arities .now) (c .before .before .before .before .before .before .before .args .nodes .now) (c .before .next-meeting .result .first)
+  term =
+      let turn = c .before .before in
+      let m = asked turn in
+      met-there (test _ _ _ _ _ _ _ _ m) (m .lists .walk) _ _ _ (turn .before .loop .inv m) _ _ (c .before .next-meeting .ensures) (c .if1 .left)
+
+to-fit : tie.Need-fits-requires Inv-loop μ-loop
+to-fit c κs =
+    let met = c .before in
+    let turn = met .before .before in
+    let m = asked turn in
+    two-terms _ _ _ _ _ _ _ _ m _ _ _
+    (meets (test _ _ _ _ _ _ _ _ m) (m .lists .walk) _ _ _ (turn .before .loop .inv m) _ _ (met .before .next-meeting .ensures) (met .if1 .left))
+
+clashes : tie.Need-returns-2 Inv-loop μ-loop
+clashes c m =
+    let met = c .before .before .before in
+    let turn = met .before .before in
+    let t = turn .before .loop .inv m in
+    let next = met .before .next-meeting .ensures in
+    let h = met .if1 .left in
+    sym
+    (agrees-not _ _ _ _ _ _ _ _ m _ _ _ (meets (test _ _ _ _ _ _ _ _ m) (m .lists .walk) _ _ _ t _ _ next h) _
+    (owed (test _ _ _ _ _ _ _ _ m) (m .lists .walk) _ _ _ t _ _ next h) _ (c .before .fits2 .ensures) (not-true _ (c .if2 .taken)))
 
 ended : tie.Need-skip-requires Inv-loop μ-loop
 ended c κs =
-    let turn = c .before .before .before .before in
-    let walk = turn .before .before .before .before .before .pre .lists .walk in
-    (walk .arities-long, walk .nodes-few, first turn)
-
-ended-2 : tie.Need-skip-requires-2 Inv-loop μ-loop
-ended-2 c κs =
-    let turn = c .before .before .before .before .before in
-    let walk = turn .before .before .before .before .before .pre .lists .walk in
-    (walk .arities-long, walk .nodes-few, other turn)
+    let met = c .before .before .before in
+    let walk = asked (met .before .before) .lists .walk in
+    (walk .arities-long, walk .nodes-few, term met)
 
 later : tie.Need-loop-less Inv-loop μ-loop
 later c =
-    let turn = c .before .before .before .before .before .before in
-    omega (arith, turn .loop-test .taken, term-passed _ _ _ (first turn) (c .before .skip .result) (c .before .skip .ensures (first turn)))
+    let met = c .before .before .before .before in
+    let turn = met .before .before in
+    let m = asked turn in
+    let on = next-later (test _ _ _ _ _ _ _ _ m) (m .lists .walk) _ _ _ (turn .before .loop .inv m) _ _ (met .before .next-meeting .ensures) in
+    omega (arith, on, turn .loop-test .taken, term-passed _ _ _ (term met) (c .skip .result) (c .skip .ensures (term met)))
 
-past-open : tie.Need-loop-again Inv-loop μ-loop
-past-open c m =
-    let open' = c .before .before in
-    let turn = open' .before .before .before .before in
-    let l = turn .before .loop in
-    gather-skips (test _ _ _ _ _ _ _ _ m) _ _ _ _ _ _ _ (l .i) (l .k) (l .inv m) (turn .loop-test .taken) (sym (open' .before .is-open .ensures) ∙ open' .if1 .taken) _ _
-    (c .before .skip .ensures) (c .skip2 .ensures)
-
-enters-both : tie.Need-loop-again-2 Inv-loop μ-loop
-enters-both c m =
-    let closed = c .before in
-    let turn = closed .before .before .before .before in
-    let l = turn .before .loop in
-    gather-enters (test _ _ _ _ _ _ _ _ m) _ _ _ _ _ _ _ (l .i) (l .k) (l .inv m) (turn .loop-test .taken) (sym (closed .before .is-open .ensures) ∙ closed .if1 .left) (c .if2 .taken)
-
-asked : tie.Need-fits-requires Inv-loop μ-loop
-asked c κs =
-    let closed = c .before in
-    let turn = closed .before .before .before .before in
-    let l = turn .before .loop in
-    let m = turn .before .before .before .before .before .pre in
-    two-terms _ _ _ _ _ _ _ _ m _ (l .i) (l .k)
-    (gather-meets (test _ _ _ _ _ _ _ _ m) _ _ _ _ _ _ _ (l .i) (l .k) (l .inv m) (turn .loop-test .taken) (sym (closed .before .is-open .ensures) ∙ closed .if1 .left)
-    (c .if2 .left))
-
-clashes : tie.Need-returns Inv-loop μ-loop
-clashes c m =
-    let met = c .before .before in
-    let closed = met .before in
-    let turn = closed .before .before .before .before in
-    let l = turn .before .loop in
-    let a =
-    gather-meets (test _ _ _ _ _ _ _ _ m) _ _ _ _ _ _ _ (l .i) (l .k) (l .inv m) (turn .loop-test .taken)
-    (sym (closed .before .is-open .ensures) ∙ closed .if1 .left) (met .if2 .left) in
-    sym (agrees-not _ _ _ _ _ _ _ _ m _ (l .i) (l .k) a _ (c .before .fits2 .ensures) (not-true _ (c .if3 .taken)))
-
-ended-3 : tie.Need-skip-requires-3 Inv-loop μ-loop
-ended-3 c κs =
-    let turn = c .before .before .before .before .before .before .before in
-    let walk = turn .before .before .before .before .before .pre .lists .walk in
-    (walk .arities-long, walk .nodes-few, first turn)
-
-later-3 : tie.Need-loop-less-3 Inv-loop μ-loop
-later-3 c =
-    let turn = c .before .before .before .before .before .before .before .before in
-    omega (arith, turn .loop-test .taken, term-passed _ _ _ (first turn) (c .skip3 .result) (c .skip3 .ensures (first turn)))
-
-past-meeting : tie.Need-loop-again-3 Inv-loop μ-loop
+past-meeting : tie.Need-loop-again Inv-loop μ-loop
 past-meeting c m =
     let fitting = c .before in
-    let met = fitting .before .before in
-    let closed = met .before in
-    let turn = closed .before .before .before .before in
-    let l = turn .before .loop in
-    let a =
-    gather-meets (test _ _ _ _ _ _ _ _ m) _ _ _ _ _ _ _ (l .i) (l .k) (l .inv m) (turn .loop-test .taken)
-    (sym (closed .before .is-open .ensures) ∙ closed .if1 .left) (met .if2 .left) in
-    meeting-passed (test _ _ _ _ _ _ _ _ m) _ _ _ _ _ _ _ (l .i) (l .k) a _ (c .skip3 .ensures)
-    (agrees-so-far _ _ _ _ _ _ _ _ m _ (l .i) (l .k) a _ (fitting .before .fits2 .ensures) (not-false _ (fitting .if3 .left)))
+    let met = fitting .before .before .before in
+    let turn = met .before .before in
+    let t = turn .before .loop .inv m in
+    let next = met .before .next-meeting .ensures in
+    let h = met .if1 .left in
+    meeting-passed (test _ _ _ _ _ _ _ _ m) (m .lists .walk) _ _ _ t _ _ next h _ (c .skip .ensures)
+    (agrees-so-far _ _ _ _ _ _ _ _ m _ _ _ (meets (test _ _ _ _ _ _ _ _ m) (m .lists .walk) _ _ _ t _ _ next h) _
+    (owed (test _ _ _ _ _ _ _ _ m) (m .lists .walk) _ _ _ t _ _ next h) _ (fitting .before .fits2 .ensures) (not-false _ (fitting .if2 .left)))
 
-ends : tie.Need-returns-2 Inv-loop μ-loop
+ends : tie.Need-returns-3 Inv-loop μ-loop
 unfolding agrees
-ends c m = let l = c .before .loop in sym (gather-ends (test _ _ _ _ _ _ _ _ m) _ _ _ _ _ _ _ (l .i) (l .k) (l .inv m) (c .loop-test .left))
+ends c m = sym (owed-at-end (test _ _ _ _ _ _ _ _ m) (m .lists .walk) _ _ _ (c .before .loop .inv m) (c .loop-test .left))
 
 pub agrees-spec : {M : Type 1} → statement M
 agrees-spec =
@@ -123,22 +101,14 @@ agrees-spec =
     (tie.spec
     Inv-loop
     μ-loop
-    holds
-    (λ c. term-within _ _ _ (first (c .before)))
-    (λ c. term-within _ _ _ (other (c .before .before)))
-    (λ c κs. c .before .before .before .before .before .before .before .pre .lists .walk .flags-long)
-    ended
-    ended-2
-    later
-    past-open
-    (λ c. omega (arith, term-within _ _ _ (first (c .before .before .before .before .before))))
-    (λ c. omega (arith, term-within _ _ _ (other (c .before .before .before .before .before))))
-    (λ c. omega arith)
-    enters-both
-    asked
+    (λ c m. agreeing _ _ _ _ _ _ _ _ m)
+    to-next
+    none-left-to-meet
+    (λ c. within (c .before))
+    to-fit
     clashes
-    ended-3
-    (λ c. omega (arith, term-within _ _ _ (other (c .before .before .before .before .before .before .before .before))))
-    later-3
+    ended
+    (λ c. omega (arith, within (c .before .before .before .before)))
+    later
     past-meeting
     ends)
