@@ -21,7 +21,7 @@ use Rattle.pair_finder.specs.Walking.{is-defined, System-kept, Arc-asked, Arc-r
 use Rattle.pair_finder.proofs.FromStore.{stored-rule, stored-place}
 use Rattle.pair_finder.proofs.Asked.{right-at, no-arc, not-reached}
 use Rattle.entries.specs.declared.Entry.{Entry}
-use Rattle.partition.specs.Working.{named, root, back-to, Begun, Keys, Roots, Lowered, Back-asked, Search-asked, First-reached, Back-asked-of}
+use Rattle.partition.specs.Working.{named, root, back-to, Begun, Keys, Roots, Lowered, Back-asked, Search-asked, Next-reached, Back-asked-of}
 use Rattle.partition.proofs.Backward.{back-to-some, no-back-to}
 
 -- the left sides of a pack that is kept begin within the nodes
@@ -164,29 +164,29 @@ module _ {rules right : ℕ} {ar ss ns ms ks rs : List ℕ} (a : Back-asked rule
 
     -- A SEARCH from rule s on found r
     module _ (end : ℕ) (ends : (t : Term-at ar ns right) → end ≡ right + length (flat (t .term))) (s r : ℕ)
-        (said : (b : Search-asked rules ar ss ns ms ks right end) → First-reached (b .asked .kept .system) (b .asked .lows) own (b .asked .pair) rules s r) where
-      pub found-first : First-reached (a .kept .system) (a .lows) own (a .pair) rules s r
-      found-first = said (record { roots = rs; asked = a; ends = ends })
+        (said : (b : Search-asked rules ar ss ns ms ks right end) → Next-reached (b .asked .kept .system) (b .asked .lows) own (b .asked .pair) rules s r) where
+      pub found-next : Next-reached (a .kept .system) (a .lows) own (a .pair) rules s r
+      found-next = said (record { roots = rs; asked = a; ends = ends })
 
       -- no rule
       pub none-found : back s ≡ false → rules ≤ r → back rules ≡ false
       none-found h l =
-          let e : r ≡ rules = omega (arith, found-first .within) in
-          rw e at (found-first .none-between h)
+          let e : r ≡ rules = omega (arith, found-next .within) in
+          rw e at (found-next .none-between h)
 
       module _ (h : r < rules) where
         pub found-reached : Arc-reached ar ss ns ms right end r
-        found-reached = record { ended = record { asked = asked-of r h; ends = ends }; reached = found-first .reached h .1 }
+        found-reached = record { ended = record { asked = asked-of r h; ends = ends }; reached = found-next .reached h .1 }
 
         -- to which an arc leads, or not
         module _ (b : Bool) (agreed : (x : Arc-reached ar ss ns ms right end r) → b ≡ arc (x .ended .asked .kept .system) (x .ended .asked .pair) (a-pair r 0)) where
           pub found-back : b ≡ true → back rules ≡ true
           unfolding found-reached
-          found-back e = arc-back r h (found-first .reached h .0) (sym (agreed found-reached) ∙ e)
+          found-back e = arc-back r h (found-next .reached h .0) (sym (agreed found-reached) ∙ e)
 
           pub found-none : b ≡ false → back s ≡ false → back (r + 1) ≡ false
           unfolding found-reached
-          found-none e none = none-more r (found-first .none-between none) (no-arc-there r (sym (agreed found-reached) ∙ e))
+          found-none e none = none-more r (found-next .none-between none) (no-arc-there r (sym (agreed found-reached) ∙ e))
 
 -- FROM THE PAIR OF AN ENTRY: it is kept at its place of its rule's right side
 

@@ -136,8 +136,9 @@ pub record Search-asked (rules : ℕ) (arities starts nodes flags keys : List �
   pub asked : Back-asked rules arities starts nodes flags keys roots right
   pub ends : (s : Term-at arities nodes right) → end ≡ right + length (flat (s .term))
 
--- r is the first rule from `first` on with a pair in a component below `own` to which document 01's arc leads, or `rules`
-pub record First-reached (p : System) (lows : List ℕ) (own : ℕ) (q : Pair) (rules first r : ℕ) : Type 0 where
+-- r is a rule from `first` on with a pair in a component below `own` to which document 01's arc leads, and no arc leads back to one
+-- before it; or r is `rules`
+pub record Next-reached (p : System) (lows : List ℕ) (own : ℕ) (q : Pair) (rules first r : ℕ) : Type 0 where
   pub within : r ≤ rules
   pub later : first ≤ r
   pub none-between : back-to p lows own q first ≡ false → back-to p lows own q r ≡ false

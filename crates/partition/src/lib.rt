@@ -10,7 +10,7 @@ use terms::MOST_SYMBOLS;
 ghost use mathlib.Core.Path.{_≡_};
 ghost use Prim.Native.Nat.{_≤_, _<_};
 ghost use lib.ListN.{length};
-ghost use Rattle.partition.specs.Working.{slot, back-to, back-at, Keys, Roots, Lowered, Noted-entry, Keys-asked, Back-asked, Search-asked, First-reached, Back-asked-of, Judgeable, Ordering-asked, Ordered-as};
+ghost use Rattle.partition.specs.Working.{slot, back-to, back-at, Keys, Roots, Lowered, Noted-entry, Keys-asked, Back-asked, Search-asked, Next-reached, Back-asked-of, Judgeable, Ordering-asked, Ordered-as};
 
 // Above the number of every component.
 const NO_COMPONENT: u16 = 65535;
@@ -65,8 +65,8 @@ fn lowest_of_roots(starts: &[u16], nodes: &[u8], rules: usize, lows: &[u16], roo
     }
 }
 
-// The first rule from `first` on with a pair in a component below `own` to which document 01's arc leads from the pair whose right
-// side is kept from `right` to `end`, or `rules`.
+// The next rule from `first` on with a pair in a component below `own` to which document 01's arc leads from the pair whose right
+// side is kept from `right` to `end`, or `rules`; no arc leads back to a rule before it.
 fn reached_from(
     arities: &[u8],
     starts: &[u16],
@@ -80,7 +80,7 @@ fn reached_from(
     first: usize,
 ) -> usize
     requires { ⌜ Search-asked rules (now arities) (now starts) (now nodes) (now defined) (now keys) right end × (first ≤ rules) ⌝ }
-    ensures { λ r. ⌜ ((a : Search-asked rules (now (arities .entry)) (now (starts .entry)) (now (nodes .entry)) (now (defined .entry)) (now (keys .entry)) right end) → First-reached (a .asked .kept .system) (a .asked .lows) own (a .asked .pair) rules first r) ⌝ }
+    ensures { λ r. ⌜ ((a : Search-asked rules (now (arities .entry)) (now (starts .entry)) (now (nodes .entry)) (now (defined .entry)) (now (keys .entry)) right end) → Next-reached (a .asked .kept .system) (a .asked .lows) own (a .asked .pair) rules first r) ⌝ }
 {
     let from = 65536 * (nodes[right] as u32);
     let mut s = first;

@@ -5,7 +5,7 @@ use Prim.Native.Nat.{_-_, _≤_}
 use native.Mathlib.Omega.{arith}
 use Rattle.pair_finder.proofs.Kept.{term-within}
 use Rattle.partition.specs.Working.{back-to, Back-asked}
-use Rattle.partition.proofs.Keys.{right-term, root-small, none-lower, found-first, none-found, found-reached, found-back, found-none}
+use Rattle.partition.proofs.Keys.{right-term, root-small, none-lower, found-next, none-found, found-reached, found-back, found-none}
 use Rattle.partition.proofs.back_from.Statement.{statement}
 use Rattle.partition.proofs.back_from.Tie as tie
 
@@ -59,7 +59,7 @@ passed c =
     let turn = there .before .before in
     let l = turn .before .loop in
     let start = turn .before .before .before .before .before .before .before .before .before .before .before .before in
-    let f = found-first (start .pre) (start .args .own) _ (turn .before .before .skip .ensures) (l .s) _ (there .before .reached-from .ensures) in
+    let f = found-next (start .pre) (start .args .own) _ (turn .before .before .skip .ensures) (l .s) _ (there .before .reached-from .ensures) in
     omega (arith, f .later, there .if2 .left)
 
 again : tie.Need-loop-again Inv-loop μ-loop
