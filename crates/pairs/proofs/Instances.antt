@@ -1,8 +1,7 @@
 -- Instances of a term whose variables and subterms with a defined root are left open: whatever the term comes to by substitution
 -- and rewriting is one, and compatible terms have a common one.
 use mathlib.Core.Path.{_≡_, refl, sym, ap, _∙_}
-use mathlib.Core.Bool.{Bool, true, false, _&&_, _||_, cond, false≢true}
-use mathlib.Core.Logic.{⊎-elim}
+use mathlib.Core.Bool.{Bool, true, false, _&&_, cond, false≢true}
 use Prim.Native.Nat.{ℕ, suc}
 use lib.Dec.{eqb}
 use borrow.Author.Tests.{eqb-true, eq-eqb}
@@ -10,7 +9,7 @@ use Rattle.rewriting.specs.Terms.{Tree, var, app, nil, cons, System, width, is-
 use Rattle.rewriting.specs.Steps.{Strategy, Step, Steps}
 use Rattle.rewriting.specs.Pairs.{defined}
 use Rattle.rewriting.specs.Systems.{Good}
-use Rattle.rewriting.proofs.Basics.{by-test, not-both, ands, and-left, and-right, and-both, or-cases, or-left, or-right}
+use Rattle.rewriting.proofs.Basics.{by-test, not-both, and-left, and-right, and-both, or-left, or-right}
 use Rattle.rewriting.proofs.Trees.{term-not-list, term-well, term-by}
 use Rattle.rewriting.proofs.Derivations.{nil-derives, cons-derives, constructor-derives}
 use Rattle.terms.proofs.Parsing.{well-app, well-cons}

@@ -1,13 +1,13 @@
 -- The test `unifies` finds a unifier exactly where there is one, and arcs miss no next of a chain.
-use mathlib.Core.Path.{_≡_, refl, sym, ap, _∙_}
-use mathlib.Core.Bool.{Bool, true, false, _&&_, _||_, not, cond, false≢true}
+use mathlib.Core.Path.{_≡_, refl, sym, _∙_}
+use mathlib.Core.Bool.{true, false, _&&_, _||_, not, cond, false≢true}
 use mathlib.Core.Logic.{_↔_, ⊎-elim}
 use mathlib.Core.List.{List, [], _∷_, _++_}
 use Prim.Native.Nat.{ℕ, suc, _+_, _≤_, _<_}
 use native.Mathlib.Omega.{arith}
 use lib.Dec.{eqb}
 use lib.ListN.{length, length-append}
-use borrow.Author.Tests.{eqb-true, eq-eqb, ne-eqb, lt-ltb, ltb-true}
+use borrow.Author.Tests.{eqb-true, eq-eqb, ne-eqb}
 use Rattle.rewriting.specs.Terms.{Tree, var, app, nil, cons, System, is-list, well, is-term, Substitution, substituted, Over}
 use Rattle.rewriting.specs.Steps.{Strategy}
 use Rattle.rewriting.specs.Pairs.{Pair, subterms, pair-left, pair-right, is-pair, same-root, has-root, arguments, defined, defined-root}
@@ -18,7 +18,7 @@ use Rattle.rewriting.proofs.Trees.{term-not-list, term-well, term-by, substitut
 use Rattle.rewriting.proofs.Pairs.{pair-defined, pair-good, pair-left-term, pair-right-term}
 use Rattle.terms.proofs.Parsing.{well-app, well-cons}
 use Rattle.pairs.specs.Unifiers.{capped, capped-below, Unifiable, Rising-within, no-more, one-more}
-use Rattle.pairs.specs.Arcs.{may-meet, may-reach, compatible, Meeting, a-meeting, meetings, agrees, all-agree, unifies, arc, reach-arc, Reaches, from-variable, to-variable, from-defined, same-symbol, no-arguments, each-argument}
+use Rattle.pairs.specs.Arcs.{may-reach, compatible, Meeting, a-meeting, meetings, agrees, all-agree, unifies, arc, reach-arc, Reaches, from-variable, to-variable, from-defined, same-symbol, no-arguments, each-argument}
 use Rattle.pairs.proofs.Reaching.{reaches}
 use Rattle.pairs.proofs.Instances.{is-open, Instance, of-variable, of-defined, of-symbol, of-nil, of-cons, leads, instance-self, common-compatible, Compatible, open-second, compatible-only, merged, merged-instance, merged-compatible, merged-term}
 
