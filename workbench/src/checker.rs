@@ -1,4 +1,5 @@
-//! An independent checker, written from document 01, document 02's N2 and N4, and for N4 paper 000, alone.
+//! An independent checker, written from document 01, document 02's N2 and N4, and for N4 Arts and Giesl's paper (the
+//! documents' 000), alone.
 //!
 //! Trees, vectors and obvious loops; each function cites the sentence of these papers it stands for.
 //! Speed is no aim here: see `tuned.rs` for the fast one.
@@ -390,7 +391,7 @@ pub fn arc_runs(pack: &Pack, from: Pair, to: Pair) -> bool {
     connectable(pack, pair_right(pack, from), pair_left(pack, to))
 }
 
-/// "the term t is connectable to v if REN(CAP(t)) and v are unifiable" (000, Definition 18); a marked root is no defined
+/// "the term t is connectable to v if REN(CAP(t)) and v are unifiable" (Arts and Giesl, Definition 18); a marked root is no defined
 /// symbol and equals itself alone, so that it stays and is compared first.
 pub fn connectable(pack: &Pack, right: &Term, left: &Term) -> bool {
     match (right, left) {
@@ -402,7 +403,7 @@ pub fn connectable(pack: &Pack, right: &Term, left: &Term) -> bool {
 /// The first fresh variable: no file has one of that number.
 const FRESH: u16 = VARIABLE_LIMIT + 1;
 
-/// "below the marked root"; "REN(t) is always a linear term", so all arguments share the next fresh variable.
+/// "below the marked root"; "REN(t) is always a linear term", so the fresh variables run on from argument to argument.
 fn all_capped(pack: &Pack, arguments: &[Term]) -> Vec<Term> {
     let mut next = FRESH;
     arguments.iter().map(|argument| capped(pack, argument, &mut next)).collect()

@@ -1,5 +1,5 @@
-//! Document 01's own arcs, which document 02's N4 replaces: only for counting the answers that need a unifier. No
-//! implementation is held to them.
+//! Document 01's own arcs, in whose place document 02's N4 puts others: to count the answers that hang on a unifier, and
+//! to test that it only takes arcs away. No implementation is held to them.
 
 use crate::checker::{check_by, is_defined, variables, Pack, Term};
 

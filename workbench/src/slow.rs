@@ -56,21 +56,22 @@ const BESIDE: usize = 3;
 /// The place of f's other argument on such a side.
 const OTHER: u16 = 1 + BUNCHES as u16 * (ARITY_LIMIT + 1);
 
-/// The slowest arc question known, with as many rules as can be: a variable meets a term as often as it can, and no two of
+/// The slowest arc question known, in a pack of so many rules: a variable meets a term as often as it can, and no two of
 /// these differ, so that nothing ends it early. Every rule is the same, and an arc runs from every pair to every pair.
 pub fn agreeing(rules: usize) -> Base {
     let (x, a) = (Term::Variable(0), apply(A, vec![]));
-    let left = bunched(&x, x.clone(), x.clone());
-    let right = bunched(&a, a.clone(), a.clone());
+    let left = bunched(&x, x.clone(), [&x, &x, &x]);
+    let right = bunched(&a, a.clone(), [&a, &a, &a]);
     Base { pack: bunched_pack(vec![Rule { left, right }; rules]), components: Vec::new() }
 }
 
-/// Every pair's right walks to the end of every left of its root, and only the last of the terms that x meets clashes with
-/// the others; no arc at all.
+/// The slowest check known for arcs that document 01 has and a unifier denies: x meets the same constant 25 times, and only
+/// the last two terms, which y meets, differ; so no arc at all, after 301 comparisons of two terms for each.
 pub fn clashing() -> Base {
-    let (x, a) = (Term::Variable(0), apply(A, vec![]));
-    let left = bunched(&x, Term::Variable(1), x.clone());
-    let right = bunched(&a, apply(H, vec![]), apply(B, vec![]));
+    let [x, y, z] = [0, 1, 2].map(Term::Variable);
+    let (a, b) = (apply(A, vec![]), apply(B, vec![]));
+    let left = bunched(&x, z, [&x, &y, &y]);
+    let right = bunched(&a, apply(H, vec![]), [&a, &a, &b]);
     let count = RULE_LIMIT - 1;
     let mut rules = vec![Rule { left, right }; count];
     rules.push(Rule { left: apply(H, vec![]), right: a });
@@ -84,12 +85,11 @@ fn bunched_pack(rules: Vec<Rule>) -> Pack {
     Pack { arities: vec![0, 0, ARITY_LIMIT, (BUNCHES + 1 + BESIDE) as u16, 0], rules }
 }
 
-/// f over bunches of a term, its other argument, the same term, and at the end a last one.
-fn bunched(term: &Term, other: Term, last: Term) -> Term {
+/// f over bunches of a term, its other argument, and those beside them.
+fn bunched(term: &Term, other: Term, beside: [&Term; BESIDE]) -> Term {
     let mut arguments = vec![apply(BUNCH, vec![term.clone(); usize::from(ARITY_LIMIT)]); BUNCHES];
     arguments.push(other);
-    arguments.extend(vec![term.clone(); BESIDE - 1]);
-    arguments.push(last);
+    arguments.extend(beside.map(Term::clone));
     apply(F, arguments)
 }
 
@@ -276,7 +276,7 @@ fn deep_meetings(depth: usize, last: u16, number: u32) -> Deep {
     let rule = Rule { left: side(Term::Variable(0), Term::Variable(0)), right: side(end(1), end(last)) };
     let base =
         Base { pack: Pack { arities: vec![0, 0, 1, 2, 1], rules: vec![rule] }, components: vec![unweighted((0, 0))] };
-    Deep { name: format!("deep, meetings of {depth} nodes, {number}"), base, number }
+    Deep { name: format!("deep, meetings {depth} below a root, {number}"), base, number }
 }
 
 fn deep_file(aim: &str, width: u16, leaf: &Term, rule: &Rule, weights: Component, number: u32) -> Deep {

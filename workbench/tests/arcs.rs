@@ -37,39 +37,53 @@ fn solvable(equations: &[(Term, Term)]) -> bool {
     answer
 }
 
+/// The variables x, y and z, and the constants a and b.
+fn leaves() -> ([Term; 3], [Term; 2]) {
+    ([0, 1, 2].map(Term::Variable), [A, B].map(constant))
+}
+
 #[test]
 fn terms_are_unified() {
-    let [x, y, z] = [0, 1, 2].map(Term::Variable);
-    let (a, b) = (constant(A), constant(B));
+    let ([x, y, z], [a, _]) = leaves();
     let unifiable = [
         vec![],
         vec![(a.clone(), a.clone())],
         vec![(x.clone(), x.clone())],
         vec![(x.clone(), y.clone()), (y.clone(), x.clone())],
-        vec![(x.clone(), g(y.clone())), (y.clone(), g(z.clone()))],
+        vec![(x.clone(), g(y.clone())), (y.clone(), g(z))],
         vec![(p(x.clone(), x.clone()), p(a.clone(), y.clone())), (y.clone(), a.clone())],
-        vec![(p(x.clone(), g(x.clone())), p(g(a.clone()), y.clone()))],
+        vec![(p(x.clone(), g(x)), p(g(a), y))],
     ];
     for equations in unifiable {
         assert!(solvable(&equations), "{equations:?}");
     }
+}
+
+#[test]
+fn terms_that_clash_have_no_unifier() {
+    let ([x, y, _], [a, b]) = leaves();
     let clashing = [
         vec![(a.clone(), b.clone())],
         vec![(g(a.clone()), a.clone())],
         vec![(p(x.clone(), x.clone()), p(a.clone(), b.clone()))],
         vec![(x.clone(), y.clone()), (y.clone(), a.clone()), (x.clone(), b.clone())],
-        vec![(x.clone(), g(y.clone())), (x.clone(), g(a)), (y, b)],
+        vec![(x.clone(), g(y.clone())), (x, g(a)), (y, b)],
     ];
     for equations in clashing {
         assert!(!solvable(&equations), "{equations:?}");
     }
-    let y = Term::Variable(1);
+}
+
+/// The occurs check: a variable within a term that it should equal.
+#[test]
+fn endless_terms_are_no_unifiers() {
+    let ([x, y, z], _) = leaves();
     let endless = [
         vec![(x.clone(), g(x.clone()))],
         vec![(x.clone(), g(g(x.clone())))],
         vec![(x.clone(), g(y.clone())), (y.clone(), g(x.clone()))],
         vec![(p(x.clone(), x.clone()), p(y.clone(), g(y.clone())))],
-        vec![(x.clone(), p(y.clone(), z.clone())), (z, g(x))],
+        vec![(x.clone(), p(y, z.clone())), (z, g(x))],
     ];
     for equations in endless {
         assert!(!solvable(&equations), "{equations:?}");

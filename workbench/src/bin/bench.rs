@@ -153,7 +153,7 @@ fn workloads() -> Vec<Workload> {
         workload("arcs: walks of 2 nodes", [slow::arcs(2)]),
         workload("arcs: walks of 6 nodes", [slow::arcs(6)]),
         workload("arcs: walks of 30 nodes", [slow::arcs(30)]),
-        workload("arcs: the last of 27 meetings", [slow::clashing()]),
+        workload("arcs: the last of 301 comparisons", [slow::clashing()]),
         workload("weights: chains, all differ", [slow::chains(437, true)]),
         workload("weights: chains, all equal", [slow::chains(437, false)]),
         workload("weights: 16 variables", [slow::wide(384)]),

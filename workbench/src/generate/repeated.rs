@@ -29,7 +29,7 @@ const NESTS: [u16; 3] = [LINK, TWIN, BUNCH];
 const NODES: usize = NODE_LIMIT as usize;
 /// All variables that a rule can have.
 const VARIABLES: usize = VARIABLE_LIMIT as usize + 1;
-/// The longest way to a clash, mostly; and the longest that two terms of one side can have.
+/// The longest way to a clash, mostly; and the longest that is tried.
 const DEPTH: usize = 3;
 const GREAT_DEPTH: usize = 13;
 
