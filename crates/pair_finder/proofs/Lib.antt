@@ -7,7 +7,7 @@ pub mod Kept
 pub mod Subterms
 -- a pack that was read is what the functions ask for
 pub mod FromStore
--- the arc question: two lists walked in step, and where the walk starts
+-- the arc question: two lists walked in step, what each walk decides, and where it starts
 pub mod Walks
 pub mod Comparing
 pub mod Gathering

@@ -72,7 +72,7 @@ pub record Walkable (arities flags nodes others : List ℕ) (u end v : ℕ) : Ty
 unfoldable pub is-open : (flags : List ℕ) → (c : ℕ) → Bool
 is-open ms c = leb 64 c || is-defined ms c
 
--- the walk skips a term on either side: the first is open, or the other is a variable or, where `both` are open there, has a defined root
+-- the walk skips a term on either side: the first is open, or the other is a variable or, if `both`, has a defined root
 unfoldable pub jumps : (flags : List ℕ) → (both : Bool) → (c d : ℕ) → Bool
 jumps ms b c d = leb 64 d || (is-open ms c || (b && is-defined ms d))
 
@@ -102,8 +102,7 @@ pub record Reaching (arities flags nodes : List ℕ) (u end v : ℕ) : Type 0 wh
   pub walk : Walkable arities flags nodes nodes u end v
   pub reaches : may-reach (walk .system) (walk .first) (walk .other) ≡ true
 
--- i and k are where a variable of the second, us, first meets a term of the first, ts; or i is the end. What is met is met from
--- there on
+-- i and k are where a variable of the second, us, first meets a term of the first, ts, or i is the end: nothing is met before them
 pub record Next-meeting (p : System) (arities flags nodes : List ℕ) (u end : ℕ) (ts us : Tree) (i k : ℕ) : Type 0 where
   pub firsts : Tree
   pub others : Tree
@@ -114,7 +113,7 @@ pub record Next-meeting (p : System) (arities flags nodes : List ℕ) (u end : �
   pub closed : i < end → is-open flags (getD nodes i 0) ≡ false
   pub variable : i < end → 64 ≤ getD nodes k 0
 
--- two lists of which the first may reach the second, and a term kept from `at` up to the first of them, which the variable with the byte d meets
+-- such lists, and a term kept from `at` up to the first of them, which the variable with the byte d meets
 pub record Meeting-at (arities flags nodes : List ℕ) (at d u end v : ℕ) : Type 0 where
   pub lists : Reaching arities flags nodes u end v
   pub term : Tree

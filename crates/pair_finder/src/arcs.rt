@@ -54,8 +54,8 @@ fn enters(defined: &[u8], both: bool, c: u8, d: u8) -> bool
     !jumps(defined, both, c, d)
 }
 
-// Each argument of the one list, kept from u to `end`, may meet the argument of the other, kept from v on; defined roots leave
-// a term of the first list open, and of `both` one of the other list too.
+// Each argument of the one list, kept from u to `end`, may meet the argument of the other, kept from v on. A defined root leaves a
+// term of the first list open and, if `both`, one of the other list too.
 fn may_meet(
     arities: &[u8],
     defined: &[u8],

@@ -8,8 +8,8 @@ use lib.Dec.{eqb}
 use Rattle.rewriting.specs.Terms.{Tree, var, app, nil, cons, System}
 use Rattle.rewriting.specs.Pairs.{Pair, pair-left, pair-right, same-root, arguments, defined}
 
--- u may meet v: u or v is a variable, or u's root is defined, or, where `both` are open there, v's root is, or the two have one root
--- symbol and each argument of u may meet that of v. Between lists: element by element.
+-- u may meet v: u or v is a variable, or u's root is defined or, if `both`, v's is, or the two have one root symbol and each argument
+-- of u may meet that of v. Between lists: element by element.
 unfoldable pub may-meet : (both : Bool) → System → (u v : Tree) → Bool
 may-meet b p (var x) v = true
 may-meet b p (app f ts) (var y) = true
@@ -30,7 +30,7 @@ may-meet b p (cons t ts) (cons u us) = may-meet b p t u && may-meet b p ts us
 abbrev pub may-reach : System → (u v : Tree) → Bool
 may-reach = may-meet false
 
--- two terms, both with such subterms open too, have a common instance
+-- two terms, each open at its variables and its subterms with a defined root, have a common instance
 abbrev pub compatible : System → (t u : Tree) → Bool
 compatible = may-meet true
 
