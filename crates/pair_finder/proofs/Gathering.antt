@@ -14,7 +14,7 @@ use Rattle.terms.specs.Sides.{flat}
 use Rattle.terms.specs.Kept.{Kept, Term-at}
 use Rattle.terms.proofs.Rests.{joined}
 use Rattle.pairs.specs.Arcs.{may-meet, may-reach, Meeting, a-meeting, meetings}
-use Rattle.pair_finder.specs.Walking.{is-open, Two-lists}
+use Rattle.pair_finder.specs.Walking.{is-open, Two-lists, Next-meeting}
 use Rattle.pair_finder.proofs.Subterms.{symbol-defined}
 use Rattle.pair_finder.proofs.Walks.{In-step, both-nil, both-cons, To-walk, At-hand, at-hand, first-is, first-kept, rest, walk-ends, walk-skips, Shape, a-variable, a-symbol, shape, first-shape, other-shape, at-symbols, inner-step, walk-enters}
 use Rattle.pair_finder.proofs.Comparing.{joined-meet}
@@ -98,6 +98,21 @@ module _ (p : System) (ar ms ns os : List ℕ) (end : ℕ) (all : List Meeting) 
             rw (joined-meet false p step (s .ts) (s .us)) (and-both (and-right (eqb (s .f) (s .g)) _ first) (and-right (eqb (s .f) (s .g) && may-reach p (s .vs) (s .ws)) _ both)),
             s .known .1 ∙ rw (constructor, joined-meetings p step (s .ts) (s .us)),
           )
+
+-- where the walk has come to a variable that meets a closed term, or to the end
+pub walk-comes : (p : System) (ar ms ns : List ℕ) (u end : ℕ) (ts us : Tree) (i k : ℕ) → To-walk p ar ms ns ns end (Met p (meetings p ts us)) i k → u ≤ i →
+    (i < end → is-open ms (getD ns i 0) ≡ false) → (i < end → 64 ≤ getD ns k 0) → Next-meeting p ar ms ns u end ts us i k
+walk-comes p ar ms ns u end ts us i k w later closed variable =
+    record {
+      firsts = w .firsts;
+      others = w .others;
+      lists = w .lists;
+      reaches = w .known .0;
+      same = w .known .1;
+      later = later;
+      closed = closed;
+      variable = variable;
+    }
 
 -- AT A MEETING: a variable meets the term kept at i, and what comes after
 

@@ -7,7 +7,7 @@ use Rattle.pairs.specs.Arcs.{meetings}
 use Rattle.pair_finder.specs.Walking.{Reaching}
 use Rattle.pair_finder.proofs.Kept.{term-within, term-passed}
 use Rattle.pair_finder.proofs.Walks.{To-walk, at-hand, first-there, other-there}
-use Rattle.pair_finder.proofs.Gathering.{Met, gather-skips, gather-enters}
+use Rattle.pair_finder.proofs.Gathering.{Met, gather-skips, gather-enters, walk-comes}
 use Rattle.pair_finder.proofs.arcs.next_meeting.Statement.{statement}
 use Rattle.pair_finder.proofs.arcs.next_meeting.Tie as tie
 
@@ -66,19 +66,8 @@ past-open c =
 found : tie.Need-returns Inv-loop μ-loop
 found c = λ w.
     let closed = c .before .before in
-    let turn = closed .before .before .before in
-    let l = turn .before .loop in
-    let t = l .inv .1 w in
-    record {
-      firsts = t .firsts;
-      others = t .others;
-      lists = t .lists;
-      reaches = t .known .0;
-      same = t .known .1;
-      later = l .inv .0;
-      closed = λ _. sym (closed .before .is-open .ensures) ∙ closed .if1 .left;
-      variable = λ _. c .if2 .taken;
-    }
+    let l = closed .before .before .before .before .loop in
+    walk-comes _ _ _ _ _ _ _ _ (l .i) (l .k) (l .inv .1 w) (l .inv .0) (λ _. sym (closed .before .is-open .ensures) ∙ closed .if1 .left) (λ _. c .if2 .taken)
 
 enters-both : tie.Need-loop-again-2 Inv-loop μ-loop
 enters-both c =
@@ -94,17 +83,8 @@ enters-both c =
 none : tie.Need-returns-2 Inv-loop μ-loop
 none c = λ w.
     let l = c .before .loop in
-    let t = l .inv .1 w in
-    record {
-      firsts = t .firsts;
-      others = t .others;
-      lists = t .lists;
-      reaches = t .known .0;
-      same = t .known .1;
-      later = l .inv .0;
-      closed = λ h. absurd (omega (arith, c .loop-test .left));
-      variable = λ h. absurd (omega (arith, c .loop-test .left));
-    }
+    let past = c .loop-test .left in
+    walk-comes _ _ _ _ _ _ _ _ (l .i) (l .k) (l .inv .1 w) (l .inv .0) (λ h. absurd (omega (arith, past))) (λ h. absurd (omega (arith, past)))
 
 pub next-meeting-spec : {M : Type 1} → statement M
 next-meeting-spec =
