@@ -1,3 +1,4 @@
+#![tactic(auto)]
 // The loader's four entries: the check, the listing, the arc question and the reader of texts; and the same as C functions.
 mod c;
 mod kept;
