@@ -19,7 +19,7 @@ pub returns-in_default : goal.returns-in_default
 returns-in_default c =
     let l = c.loop-i in
     let text = c.args.text.now in
-    sym (l.invariant.1 ∙ among_over text l.i _ (listed_over text l.i _ c.next_token.ensures c.in_default.in_default-own.keys2))
+    sym (l.invariant.1 ∙ among_over text l.i _ (listed_over text l.i _ c.next_token.ensures c.in_default.not-Name))
 
 pub same_name-requires : goal.same_name-requires
 unfolding Told

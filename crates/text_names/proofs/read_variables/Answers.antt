@@ -44,7 +44,7 @@ loop-i-preserved c =
     let named : let l = c.loop-i in
     Named c.args.text.now l.i c.in-Name.s c.in-Name.e = rw c.in-Name.is at c.next_token.ensures in
     let l = c.loop-i in
-    (c.keep.auto.1.0 ∙ l.invariant.0, read_more _ _ l.table l.i l.invariant.1 _ _ named _ c.keep.ensures)
+    (c.keep.auto.table ∙ l.invariant.0, read_more _ _ l.table l.i l.invariant.1 _ _ named _ c.keep.ensures)
 
 pub returns-in-Close : goal.returns-in-Close
 unfolding Told
@@ -55,7 +55,7 @@ returns-in-Close c =
 pub returns-in_default : goal.returns-in_default
 returns-in_default c =
     let l = c.loop-i in
-    read_refused _ _ _ l.i l.invariant.1 (after_other _ l.i _ c.next_token.ensures c.in_default.in_default-own.keys3)
+    read_refused _ _ _ l.i l.invariant.1 (after_other _ l.i _ c.next_token.ensures c.in_default.not-Name c.in_default.not-Close)
 
 pub returns : goal.returns
 returns c =
