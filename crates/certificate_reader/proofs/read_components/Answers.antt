@@ -65,12 +65,11 @@ step-requires c =
 
 pub returns-in-Refused : goal.returns-in-Refused
 returns-in-Refused c =
-    let start : tie.Start invariant-loop decreases-loop = c in
     let i : ℕ = c.loop-i.i in
     let s : State = c.loop-i.s in
     let r : Record = c.in-Found.r in
-    let all : List Record = all_records start.args.certificate.now in
-    let Holds : System → Type 0 = (λ p. Stored p start.args.symbols start.args.rules start.args.arities.now start.args.starts.now start.args.nodes.now start.args.defined.now) in
+    let all : List Record = all_records c.args.certificate.now in
+    let Holds : System → Type 0 = (λ p. Stored p c.args.symbols c.args.rules c.args.arities.now c.args.starts.now c.args.nodes.now c.args.defined.now) in
     let told : (p : System) → Holds p → Told p all i s = (λ p stored. c.loop-i.invariant.4 p stored) in
     let this : drop i all ≡ r ∷ drop (suc i) all = here _ i s r (sym c.read_wanted.ensures ∙ c.in-Found.is) c.loop-i-test.true in
     let answered : (p : System) (stored : Holds p) (a : Stepped) → c.step.result ≡ a → StepsAs (cert_step p r (told p stored).reading) a = (λ p stored a e. subst (λ (a : Stepped). StepsAs (cert_step p r (told p stored).reading) a) e (c.step.ensures.means p (told p stored).reading stored (told p stored).mirrors)) in
@@ -79,19 +78,16 @@ returns-in-Refused c =
     (told_refusal p all i s (told p stored) r this _ (answered p stored _ c.in-Refused.is))
 
 pub overflow_add-i : goal.overflow_add-i
-overflow_add-i c =
-    let start : tie.Start invariant-loop decreases-loop = c in
-    omega (arith, start.pre.file.short)
+overflow_add-i c = omega (arith, c.requires.file.short)
 
 pub loop-i-preserved : goal.loop-i-preserved
 unfolding GoesOn
 loop-i-preserved c =
-    let start : tie.Start invariant-loop decreases-loop = c in
     let i : ℕ = c.loop-i.i in
     let s : State = c.loop-i.s in
     let r : Record = c.in-Found.r in
-    let all : List Record = all_records start.args.certificate.now in
-    let Holds : System → Type 0 = (λ p. Stored p start.args.symbols start.args.rules start.args.arities.now start.args.starts.now start.args.nodes.now start.args.defined.now) in
+    let all : List Record = all_records c.args.certificate.now in
+    let Holds : System → Type 0 = (λ p. Stored p c.args.symbols c.args.rules c.args.arities.now c.args.starts.now c.args.nodes.now c.args.defined.now) in
     let told : (p : System) → Holds p → Told p all i s = (λ p stored. c.loop-i.invariant.4 p stored) in
     let this : drop i all ≡ r ∷ drop (suc i) all = here _ i s r (sym c.read_wanted.ensures ∙ c.in-Found.is) c.loop-i-test.true in
     let answered : (p : System) (stored : Holds p) (a : Stepped) → c.step.result ≡ a → StepsAs (cert_step p r (told p stored).reading) a = (λ p stored a e. subst (λ (a : Stepped). StepsAs (cert_step p r (told p stored).reading) a) e (c.step.ensures.means p (told p stored).reading stored (told p stored).mirrors)) in
@@ -110,12 +106,12 @@ returns-then-not-may_follow c =
     let l = c.loop-i in
     λ p stored.
     ends_early p _ l.i l.s (l.invariant.4 p stored) c.loop-i-test.false
-    (sym c.may_follow.ensures ∙ not-true c.may_follow.result c.if-not-may_follow.true)
+    (sym c.may_follow.ensures ∙ c.if-not-may_follow.true)
 
 pub returns-then-s-ne0 : goal.returns-then-s-ne0
 unfolding column_at
 returns-then-s-ne0 c =
-    let may_end : c.may_follow.result ≡ true = not-false c.may_follow.result c.if-not-may_follow.false in
+    let may_end : c.may_follow.result ≡ true = c.if-not-may_follow.false in
     let l = c.loop-i in
     λ p stored.
     ends_missing p _ l.i l.s (l.invariant.4 p stored) c.loop-i-test.false (sym c.may_follow.ensures ∙ may_end) c.if-s-ne0.true
@@ -123,7 +119,7 @@ returns-then-s-ne0 c =
 pub returns : goal.returns
 unfolding column_at
 returns c =
-    let may_end : c.may_follow.result ≡ true = not-false c.may_follow.result c.if-not-may_follow.false in
+    let may_end : c.may_follow.result ≡ true = c.if-not-may_follow.false in
     let l = c.loop-i in
     λ p stored.
     ends_read p _ l.i l.s (l.invariant.4 p stored) c.loop-i-test.false (sym c.may_follow.ensures ∙ may_end) c.if-s-ne0.false

@@ -64,10 +64,9 @@ returns-then-r-gt-MOST_WEIGHTINGS c =
     let s : State = c.args.s in
     let no_more : (x : CertificateReading) → Mirrors s x → eqb x.more 0 ≡ true = (λ x m. none_missing s x m c.if-s-ne0.false) in
     let zero_one : eqb r.one 0 ≡ true = eq-eqb _ _ c.if-r-ne0.false in
-    let zeros : tie.Else2 = c in
-    let alone : (r zeros).b ≡ 0 → (r zeros).c ≤ 1 = (λ z. ⊎_elim (λ w. w.2.left) (λ w. absurd (w.left z)) c.if-r-eq0.branch-raw) in
-    let no_stray : (x : CertificateReading) → Mirrors (s zeros) x →
-    (eqb x.more 0 && (eqb (r zeros).one 0 && eqb (r zeros).a (length (components_of x)))) && not (eqb (r zeros).b 0 && ltb 1 (r zeros).c) ≡ true = (λ x m. rw (no_more zeros x m, zero_one zeros, ← m.number_is, eq-eqb _ _ c.if-r-s.false, counts_alone (r zeros).b (r zeros).c alone)) in
+    let alone : r.b ≡ 0 → r.c ≤ 1 = (λ z. ⊎_elim (λ w. w.if-r-gt1.false) (λ w. absurd (w.if-r-eq0.false z)) c.if-r-eq0.branch-raw) in
+    let no_stray : (x : CertificateReading) → Mirrors s x →
+    (eqb x.more 0 && (eqb r.one 0 && eqb r.a (length (components_of x)))) && not (eqb r.b 0 && ltb 1 r.c) ≡ true = (λ x m. rw (no_more x m, zero_one, ← m.number_is, eq-eqb _ _ c.if-r-s.false, counts_alone r.b r.c alone)) in
     record { on = no_state _ OutOfRange; means = λ x m k. rw (no_stray x m, lt-leb _ _ c.if-r-gt-MOST_WEIGHTINGS.true) (stops OutOfRange) }
 
 pub returns-then-r-lt1 : goal.returns-then-r-lt1
@@ -77,10 +76,9 @@ returns-then-r-lt1 c =
     let s : State = c.args.s in
     let no_more : (x : CertificateReading) → Mirrors s x → eqb x.more 0 ≡ true = (λ x m. none_missing s x m c.if-s-ne0.false) in
     let zero_one : eqb r.one 0 ≡ true = eq-eqb _ _ c.if-r-ne0.false in
-    let zeros : tie.Else2 = c in
-    let alone : (r zeros).b ≡ 0 → (r zeros).c ≤ 1 = (λ z. ⊎_elim (λ w. w.2.left) (λ w. absurd (w.left z)) c.if-r-eq0.branch-raw) in
-    let no_stray : (x : CertificateReading) → Mirrors (s zeros) x →
-    (eqb x.more 0 && (eqb (r zeros).one 0 && eqb (r zeros).a (length (components_of x)))) && not (eqb (r zeros).b 0 && ltb 1 (r zeros).c) ≡ true = (λ x m. rw (no_more zeros x m, zero_one zeros, ← m.number_is, eq-eqb _ _ c.if-r-s.false, counts_alone (r zeros).b (r zeros).c alone)) in
+    let alone : r.b ≡ 0 → r.c ≤ 1 = (λ z. ⊎_elim (λ w. w.if-r-gt1.false) (λ w. absurd (w.if-r-eq0.false z)) c.if-r-eq0.branch-raw) in
+    let no_stray : (x : CertificateReading) → Mirrors s x →
+    (eqb x.more 0 && (eqb r.one 0 && eqb r.a (length (components_of x)))) && not (eqb r.b 0 && ltb 1 r.c) ≡ true = (λ x m. rw (no_more x m, zero_one, ← m.number_is, eq-eqb _ _ c.if-r-s.false, counts_alone r.b r.c alone)) in
     record { on = no_state _ OutOfRange; means = λ x m k. rw (no_stray x m, le-leb _ _ c.if-r-gt-MOST_WEIGHTINGS.false, lt-leb _ _ c.if-r-lt1.true) (stops OutOfRange) }
 
 pub returns-then-r-gt-MOST_PAIRS : goal.returns-then-r-gt-MOST_PAIRS
@@ -90,10 +88,9 @@ returns-then-r-gt-MOST_PAIRS c =
     let s : State = c.args.s in
     let no_more : (x : CertificateReading) → Mirrors s x → eqb x.more 0 ≡ true = (λ x m. none_missing s x m c.if-s-ne0.false) in
     let zero_one : eqb r.one 0 ≡ true = eq-eqb _ _ c.if-r-ne0.false in
-    let zeros : tie.Else2 = c in
-    let alone : (r zeros).b ≡ 0 → (r zeros).c ≤ 1 = (λ z. ⊎_elim (λ w. w.2.left) (λ w. absurd (w.left z)) c.if-r-eq0.branch-raw) in
-    let no_stray : (x : CertificateReading) → Mirrors (s zeros) x →
-    (eqb x.more 0 && (eqb (r zeros).one 0 && eqb (r zeros).a (length (components_of x)))) && not (eqb (r zeros).b 0 && ltb 1 (r zeros).c) ≡ true = (λ x m. rw (no_more zeros x m, zero_one zeros, ← m.number_is, eq-eqb _ _ c.if-r-s.false, counts_alone (r zeros).b (r zeros).c alone)) in
+    let alone : r.b ≡ 0 → r.c ≤ 1 = (λ z. ⊎_elim (λ w. w.if-r-gt1.false) (λ w. absurd (w.if-r-eq0.false z)) c.if-r-eq0.branch-raw) in
+    let no_stray : (x : CertificateReading) → Mirrors s x →
+    (eqb x.more 0 && (eqb r.one 0 && eqb r.a (length (components_of x)))) && not (eqb r.b 0 && ltb 1 r.c) ≡ true = (λ x m. rw (no_more x m, zero_one, ← m.number_is, eq-eqb _ _ c.if-r-s.false, counts_alone r.b r.c alone)) in
     record {
       on = no_state _ OutOfRange;
       means = λ x m k. rw (no_stray x m, le-leb _ _ c.if-r-gt-MOST_WEIGHTINGS.false, le-leb _ _ c.if-r-lt1.false, lt-leb _ _ c.if-r-gt-MOST_PAIRS.true) (stops OutOfRange);
@@ -106,13 +103,12 @@ returns c =
     let s : State = c.args.s in
     let no_more : (x : CertificateReading) → Mirrors s x → eqb x.more 0 ≡ true = (λ x m. none_missing s x m c.if-s-ne0.false) in
     let zero_one : eqb r.one 0 ≡ true = eq-eqb _ _ c.if-r-ne0.false in
-    let zeros : tie.Else2 = c in
-    let alone : (r zeros).b ≡ 0 → (r zeros).c ≤ 1 = (λ z. ⊎_elim (λ w. w.2.left) (λ w. absurd (w.left z)) c.if-r-eq0.branch-raw) in
-    let no_stray : (x : CertificateReading) → Mirrors (s zeros) x →
-    (eqb x.more 0 && (eqb (r zeros).one 0 && eqb (r zeros).a (length (components_of x)))) && not (eqb (r zeros).b 0 && ltb 1 (r zeros).c) ≡ true = (λ x m. rw (no_more zeros x m, zero_one zeros, ← m.number_is, eq-eqb _ _ c.if-r-s.false, counts_alone (r zeros).b (r zeros).c alone)) in
+    let alone : r.b ≡ 0 → r.c ≤ 1 = (λ z. ⊎_elim (λ w. w.if-r-gt1.false) (λ w. absurd (w.if-r-eq0.false z)) c.if-r-eq0.branch-raw) in
+    let no_stray : (x : CertificateReading) → Mirrors s x →
+    (eqb x.more 0 && (eqb r.one 0 && eqb r.a (length (components_of x)))) && not (eqb r.b 0 && ltb 1 r.c) ≡ true = (λ x m. rw (no_more x m, zero_one, ← m.number_is, eq-eqb _ _ c.if-r-s.false, counts_alone r.b r.c alone)) in
     let first = c.first-begun.ensures.0 in
     record {
-      on = after_component _ _ refl c.if-r-lt1.false refl (omega (arith, first, first_few (r zeros).b));
+      on = after_component _ _ refl c.if-r-lt1.false refl (omega (arith, first, first_few r.b));
       means = λ x m k.
           rw (no_stray x m, le-leb _ _ c.if-r-gt-MOST_WEIGHTINGS.false, le-leb _ _ c.if-r-lt1.false, le-leb _ _ c.if-r-gt-MOST_PAIRS.false, k)
           (answers _ _ (component_mirrored _ x _ _ _ first m));

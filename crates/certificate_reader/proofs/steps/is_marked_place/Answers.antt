@@ -7,15 +7,15 @@ use Rattle.rewriting.proofs.Basics.{and_left}
 use Rattle.certificate_reader.proofs.steps.is_marked_place.Goals as goal
 
 pub returns-then-not-is_place : goal.returns-then-not-is_place
-returns-then-not-is_place c = let placed = c.is_place in rw (← placed.ensures, not-true placed.result c.if-not-is_place.true)
+returns-then-not-is_place c = let placed = c.is_place in rw (← placed.ensures, c.if-not-is_place.true)
 
 pub overflow_cast-f : goal.overflow_cast-f
 overflow_cast-f c =
     let placed = c.is_place in
-    let holds = sym placed.ensures ∙ not-false placed.result c.if-not-is_place.false in
+    let holds = sym placed.ensures ∙ c.if-not-is_place.false in
     omega (arith, ltb-true c.args.f.0 c.args.symbols (and_left _ _ holds))
 
 pub returns : goal.returns
 returns c =
     let placed = c.is_place in
-    rw (← placed.ensures, not-false placed.result c.if-not-is_place.false) c.is_defined.ensures
+    rw (← placed.ensures, c.if-not-is_place.false) c.is_defined.ensures

@@ -50,16 +50,13 @@ returns-then-not-is_marked_place c =
     let small : r.b < 65536 = omega arith in
     let key_told : (x : CertificateReading) (d : Component) → x.begun ≡ some d → Mirrors s x →
     weights_below (last_weighting d.weightings).marked r.a r.b ≡ ltb s.marked_key c.key-k.result = (λ x d is m. marked_told s x d is m r.a r.b small ∙ ap (ltb s.marked_key) (sym c.key-k.ensures.is)) in
-    let keyed : tie.After-key = c in
-    let start : tie.Start = keyed.before.before.before.before.before in
-    let place_told : (p : System) (rules : ℕ) (starts nodes : List ℕ) → Stored p start.args.symbols rules start.args.arities.now starts nodes start.args.defined.now →
-    is_place p (r keyed).a (r keyed).b && defined p (r keyed).a ≡ c.is_marked_place.result = (λ p rules starts nodes stored. marked_place_stored p _ rules _ starts nodes _ stored (r keyed).a (r keyed).b ∙ sym c.is_marked_place.ensures) in
-    let k = keyed in
+    let place_told : (p : System) (rules : ℕ) (starts nodes : List ℕ) → Stored p c.args.symbols rules c.args.arities.now starts nodes c.args.defined.now →
+    is_place p r.a r.b && defined p r.a ≡ c.is_marked_place.result = (λ p rules starts nodes stored. marked_place_stored p _ rules _ starts nodes _ stored r.a r.b ∙ sym c.is_marked_place.ensures) in
     record {
       on = no_state _ OutOfRange;
       means = λ p rules starts nodes x d stored m is due kind.
-          let none = place_told p rules starts nodes stored ∙ not-true c.is_marked_place.result c.if-not-is_marked_place.true in
-          rw (zero_one k, key_told k x d is m, lt-ltb _ _ c.if-k-s.false, none) (stops OutOfRange);
+          let none = place_told p rules starts nodes stored ∙ c.if-not-is_marked_place.true in
+          rw (zero_one, key_told x d is m, lt-ltb _ _ c.if-k-s.false, none) (stops OutOfRange);
     }
 
 pub returns : goal.returns
@@ -71,16 +68,13 @@ returns c =
     let small : r.b < 65536 = omega arith in
     let key_told : (x : CertificateReading) (d : Component) → x.begun ≡ some d → Mirrors s x →
     weights_below (last_weighting d.weightings).marked r.a r.b ≡ ltb s.marked_key c.key-k.result = (λ x d is m. marked_told s x d is m r.a r.b small ∙ ap (ltb s.marked_key) (sym c.key-k.ensures.is)) in
-    let keyed : tie.After-key = c in
-    let start : tie.Start = keyed.before.before.before.before.before in
-    let place_told : (p : System) (rules : ℕ) (starts nodes : List ℕ) → Stored p start.args.symbols rules start.args.arities.now starts nodes start.args.defined.now →
-    is_place p (r keyed).a (r keyed).b && defined p (r keyed).a ≡ c.is_marked_place.result = (λ p rules starts nodes stored. marked_place_stored p _ rules _ starts nodes _ stored (r keyed).a (r keyed).b ∙ sym c.is_marked_place.ensures) in
-    let k = keyed in
-    let has = start.requires.weighted in
+    let place_told : (p : System) (rules : ℕ) (starts nodes : List ℕ) → Stored p c.args.symbols rules c.args.arities.now starts nodes c.args.defined.now →
+    is_place p r.a r.b && defined p r.a ≡ c.is_marked_place.result = (λ p rules starts nodes stored. marked_place_stored p _ rules _ starts nodes _ stored r.a r.b ∙ sym c.is_marked_place.ensures) in
+    let has = c.requires.weighted in
     record {
       on = after_weight _ _ (omega arith) (omega arith) refl has refl (omega arith);
       means = λ p rules starts nodes x d stored m is due kind.
-          let one = place_told p rules starts nodes stored ∙ not-false c.is_marked_place.result c.if-not-is_marked_place.false in
-          rw (zero_one k, key_told k x d is m, lt-ltb _ _ c.if-k-s.false, one, kind)
-          (answers _ _ (marked_mirrored _ x d is m _ _ _ k.key.ensures.is (small k) _ has));
+          let one = place_told p rules starts nodes stored ∙ c.if-not-is_marked_place.false in
+          rw (zero_one, key_told x d is m, lt-ltb _ _ c.if-k-s.false, one, kind)
+          (answers _ _ (marked_mirrored _ x d is m _ _ _ c.key-k.ensures.is small _ has));
     }

@@ -8,9 +8,8 @@ use Rattle.certificate_reader.proofs.steps.step.Goals as goal
 
 pub returns-then-r-eq67 : goal.returns-then-r-eq67
 returns-then-r-eq67 c =
-    let start : tie.Start = c in
     let kind = c.if-r-eq67.true in
-    let asked = start.requires in
+    let asked = c.requires in
     record {
       on = c.component.ensures.on;
       means = λ p x stored m. component_steps p _ _ x _ m asked.follows kind (c.component.ensures.means x m kind);
@@ -18,8 +17,7 @@ returns-then-r-eq67 c =
 
 pub pair-requires : goal.pair-requires
 pair-requires c =
-    let start : tie.Start = c in
-    let asked = start.requires in
+    let asked = c.requires in
     record {
       laid = asked.arrays.laid;
       flags_long = asked.arrays.flags_long;
@@ -28,9 +26,8 @@ pair-requires c =
 
 pub returns-then-r-eq80 : goal.returns-then-r-eq80
 returns-then-r-eq80 c =
-    let start : tie.Start = c in
     let kind = c.if-r-eq80.true in
-    let asked = start.requires in
+    let asked = c.requires in
     record {
       on = c.pair.ensures.on;
       means = λ p x stored m.
@@ -40,8 +37,7 @@ returns-then-r-eq80 c =
 
 pub weight-requires : goal.weight-requires
 weight-requires c =
-    let start : tie.Start = c in
-    let asked = start.requires in
+    let asked = c.requires in
     record {
       place = record { arities_long = asked.arrays.arities_long; symbols_few = asked.symbols_few };
       weighted = (weight_may_stand _ asked.sound _ asked.follows (only_weight _ asked.sound _ asked.follows c.if-r-gt80.true)).2;
@@ -49,8 +45,7 @@ weight-requires c =
 
 pub returns-then-r-gt80 : goal.returns-then-r-gt80
 returns-then-r-gt80 c =
-    let start : tie.Start = c in
-    let asked = start.requires in
+    let asked = c.requires in
     let kind = only_weight _ asked.sound _ asked.follows c.if-r-gt80.true in
     let stands = weight_may_stand _ asked.sound _ asked.follows kind in
     record {
@@ -62,8 +57,7 @@ returns-then-r-gt80 c =
 
 pub marked-requires : goal.marked-requires
 marked-requires c =
-    let start : tie.Start = c in
-    let asked = start.requires in
+    let asked = c.requires in
     record {
       place =
           record {
@@ -75,9 +69,8 @@ marked-requires c =
 
 pub returns-then-r-eq77 : goal.returns-then-r-eq77
 returns-then-r-eq77 c =
-    let start : tie.Start = c in
     let kind = c.if-r-eq77.true in
-    let asked = start.requires in
+    let asked = c.requires in
     let stands = marked_may_stand _ asked.sound _ asked.follows kind in
     record {
       on = c.marked.ensures.on;
@@ -88,21 +81,17 @@ returns-then-r-eq77 c =
 
 pub weighting-requires : goal.weighting-requires
 weighting-requires c =
-    let start : tie.Start = c in
-    let at : tie.Start = start in
-    let of_weighting : at.args.r.kind ≡ l_weighting = only_weighting _ at.pre.sound _ at.pre.follows c.if-r-eq67.false c.if-r-eq80.false c.if-r-gt80.false c.if-r-eq77.false in
-    let stands_there : (at.args.s.last ≡ 5 → ⊥) × (at.args.s.due ≡ 0) × (at.args.s.weighted ≡ true) = weighting_may_stand _ at.pre.sound _ at.pre.follows of_weighting in
-    record { weighted = stands_there.2; begun_small = at.requires.begun_small }
+    let of_weighting : c.args.r.kind ≡ l_weighting = only_weighting _ c.requires.sound _ c.requires.follows c.if-r-eq67.false c.if-r-eq80.false c.if-r-gt80.false c.if-r-eq77.false in
+    let stands_there : (c.args.s.last ≡ 5 → ⊥) × (c.args.s.due ≡ 0) × (c.args.s.weighted ≡ true) = weighting_may_stand _ c.requires.sound _ c.requires.follows of_weighting in
+    record { weighted = stands_there.2; begun_small = c.requires.begun_small }
 
 pub returns : goal.returns
 returns c =
-    let start : tie.Start = c in
-    let at : tie.Start = start in
-    let of_weighting : at.args.r.kind ≡ l_weighting = only_weighting _ at.pre.sound _ at.pre.follows c.if-r-eq67.false c.if-r-eq80.false c.if-r-gt80.false c.if-r-eq77.false in
-    let stands_there : (at.args.s.last ≡ 5 → ⊥) × (at.args.s.due ≡ 0) × (at.args.s.weighted ≡ true) = weighting_may_stand _ at.pre.sound _ at.pre.follows of_weighting in
+    let of_weighting : c.args.r.kind ≡ l_weighting = only_weighting _ c.requires.sound _ c.requires.follows c.if-r-eq67.false c.if-r-eq80.false c.if-r-gt80.false c.if-r-eq77.false in
+    let stands_there : (c.args.s.last ≡ 5 → ⊥) × (c.args.s.due ≡ 0) × (c.args.s.weighted ≡ true) = weighting_may_stand _ c.requires.sound _ c.requires.follows of_weighting in
     record {
       on = c.weighting.ensures.on;
       means = λ p x stored m.
           let d = m.begun_is stands_there.0 in
-          weighting_steps p _ _ x _ m at.requires.follows d.0 d.1 of_weighting (c.weighting.ensures.means x d.0 m d.1 stands_there.1 of_weighting);
+          weighting_steps p _ _ x _ m c.requires.follows d.0 d.1 of_weighting (c.weighting.ensures.means x d.0 m d.1 stands_there.1 of_weighting);
     }

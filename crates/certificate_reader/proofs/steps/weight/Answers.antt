@@ -49,16 +49,13 @@ returns-then-not-is_place c =
     let small : r.b < 65536 = omega arith in
     let key_told : (x : CertificateReading) (d : Component) → x.begun ≡ some d → Mirrors s x →
     weights_below (last_weighting d.weightings).weights r.a r.b ≡ ltb s.weight_key c.key-k.result = (λ x d is m. weights_told s x d is m r.a r.b small ∙ ap (ltb s.weight_key) (sym c.key-k.ensures.is)) in
-    let keyed : tie.After-key = c in
-    let start : tie.Start = keyed.before.before.before.before in
-    let place_told : (p : System) (rules : ℕ) (starts nodes flags : List ℕ) → Stored p start.args.symbols rules start.args.arities.now starts nodes flags →
-    is_place p (r keyed).a (r keyed).b ≡ c.is_place.result = (λ p rules starts nodes flags stored. place_stored p _ rules _ starts nodes flags stored (r keyed).a (r keyed).b ∙ sym c.is_place.ensures) in
-    let k = keyed in
+    let place_told : (p : System) (rules : ℕ) (starts nodes flags : List ℕ) → Stored p c.args.symbols rules c.args.arities.now starts nodes flags →
+    is_place p r.a r.b ≡ c.is_place.result = (λ p rules starts nodes flags stored. place_stored p _ rules _ starts nodes flags stored r.a r.b ∙ sym c.is_place.ensures) in
     record {
       on = no_state _ OutOfRange;
       means = λ p rules starts nodes flags x d stored m is due kind.
-          let none = place_told p rules starts nodes flags stored ∙ not-true c.is_place.result c.if-not-is_place.true in
-          rw (zero_one k, key_told k x d is m, lt-ltb _ _ c.if-k-s.false, none) (stops OutOfRange);
+          let none = place_told p rules starts nodes flags stored ∙ c.if-not-is_place.true in
+          rw (zero_one, key_told x d is m, lt-ltb _ _ c.if-k-s.false, none) (stops OutOfRange);
     }
 
 pub returns : goal.returns
@@ -70,16 +67,13 @@ returns c =
     let small : r.b < 65536 = omega arith in
     let key_told : (x : CertificateReading) (d : Component) → x.begun ≡ some d → Mirrors s x →
     weights_below (last_weighting d.weightings).weights r.a r.b ≡ ltb s.weight_key c.key-k.result = (λ x d is m. weights_told s x d is m r.a r.b small ∙ ap (ltb s.weight_key) (sym c.key-k.ensures.is)) in
-    let keyed : tie.After-key = c in
-    let start : tie.Start = keyed.before.before.before.before in
-    let place_told : (p : System) (rules : ℕ) (starts nodes flags : List ℕ) → Stored p start.args.symbols rules start.args.arities.now starts nodes flags →
-    is_place p (r keyed).a (r keyed).b ≡ c.is_place.result = (λ p rules starts nodes flags stored. place_stored p _ rules _ starts nodes flags stored (r keyed).a (r keyed).b ∙ sym c.is_place.ensures) in
-    let k = keyed in
-    let has = start.requires.weighted in
+    let place_told : (p : System) (rules : ℕ) (starts nodes flags : List ℕ) → Stored p c.args.symbols rules c.args.arities.now starts nodes flags →
+    is_place p r.a r.b ≡ c.is_place.result = (λ p rules starts nodes flags stored. place_stored p _ rules _ starts nodes flags stored r.a r.b ∙ sym c.is_place.ensures) in
+    let has = c.requires.weighted in
     record {
       on = after_weight _ _ (omega arith) (omega arith) refl has refl (omega arith);
       means = λ p rules starts nodes flags x d stored m is due kind.
-          let one = place_told p rules starts nodes flags stored ∙ not-false c.is_place.result c.if-not-is_place.false in
-          rw (zero_one k, key_told k x d is m, lt-ltb _ _ c.if-k-s.false, one, kind)
-          (answers _ _ (weight_mirrored _ x d is m _ _ _ k.key.ensures.is (small k) _ has));
+          let one = place_told p rules starts nodes flags stored ∙ c.if-not-is_place.false in
+          rw (zero_one, key_told x d is m, lt-ltb _ _ c.if-k-s.false, one, kind)
+          (answers _ _ (weight_mirrored _ x d is m _ _ _ c.key-k.ensures.is small _ has));
     }

@@ -33,9 +33,8 @@ returns-then-r-s c =
 pub returns-then-r-ne0-2 : goal.returns-then-r-ne0-2
 unfolding weighting_read
 returns-then-r-ne0-2 c =
-    let start : tie.Start = c in
-    let r : Record = start.args.r in
-    let numbered : (x : CertificateReading) (d : Component) → x.begun ≡ some d → Mirrors start.args.s x →
+    let r : Record = c.args.r in
+    let numbered : (x : CertificateReading) (d : Component) → x.begun ≡ some d → Mirrors c.args.s x →
     eqb r.one 0 && eqb r.a (length d.weightings) ≡ true = (λ x d is m. rw (eq-eqb _ _ c.if-r-ne0.false, eq-eqb _ _ (c.if-r-s.false ∙ begun_counted _ x d is m))) in
     record {
       on = no_state _ StrayRecord;
@@ -45,9 +44,8 @@ returns-then-r-ne0-2 c =
 pub returns-then-r-ne0-3 : goal.returns-then-r-ne0-3
 unfolding weighting_read
 returns-then-r-ne0-3 c =
-    let start : tie.Start = c in
-    let r : Record = start.args.r in
-    let numbered : (x : CertificateReading) (d : Component) → x.begun ≡ some d → Mirrors start.args.s x →
+    let r : Record = c.args.r in
+    let numbered : (x : CertificateReading) (d : Component) → x.begun ≡ some d → Mirrors c.args.s x →
     eqb r.one 0 && eqb r.a (length d.weightings) ≡ true = (λ x d is m. rw (eq-eqb _ _ c.if-r-ne0.false, eq-eqb _ _ (c.if-r-s.false ∙ begun_counted _ x d is m))) in
     record {
       on = no_state _ StrayRecord;
@@ -57,39 +55,32 @@ returns-then-r-ne0-3 c =
 pub returns-then-s-eq0 : goal.returns-then-s-eq0
 unfolding weighting_read
 returns-then-s-eq0 c =
-    let start : tie.Start = c in
-    let r : Record = start.args.r in
-    let numbered : (x : CertificateReading) (d : Component) → x.begun ≡ some d → Mirrors start.args.s x →
+    let r : Record = c.args.r in
+    let numbered : (x : CertificateReading) (d : Component) → x.begun ≡ some d → Mirrors c.args.s x →
     eqb r.one 0 && eqb r.a (length d.weightings) ≡ true = (λ x d is m. rw (eq-eqb _ _ c.if-r-ne0.false, eq-eqb _ _ (c.if-r-s.false ∙ begun_counted _ x d is m))) in
-    let in_sequence : tie.Else2 = c in
-    let zeros : eqb (r in_sequence).b 0 && eqb (r in_sequence).c 0 ≡ true = rw (eq-eqb _ _ c.if-r-ne0-2.false, eq-eqb _ _ c.if-r-ne0-3.false) in
+    let zeros : eqb r.b 0 && eqb r.c 0 ≡ true = rw (eq-eqb _ _ c.if-r-ne0-2.false, eq-eqb _ _ c.if-r-ne0-3.false) in
     record {
       on = no_state _ StrayRecord;
       means = λ x d m is due kind.
           let none_more : x.more ≡ 0 = sym m.more_is ∙ c.if-s-eq0.true in
-          rw (numbered in_sequence x d is m, zeros, lt-leb 1 x.more (omega arith)) (stops StrayRecord);
+          rw (numbered x d is m, zeros, lt-leb 1 x.more (omega arith)) (stops StrayRecord);
     }
 
 pub overflow_add-result : goal.overflow_add-result
-overflow_add-result c =
-    let start : tie.Start = c in
-    let in_sequence : tie.Else2 = c in
-    omega (arith, (start in_sequence).pre.begun_small)
+overflow_add-result c = omega (arith, c.requires.begun_small)
 
 pub returns : goal.returns
 unfolding weighting_read index
 returns c =
-    let start : tie.Start = c in
-    let r : Record = start.args.r in
-    let numbered : (x : CertificateReading) (d : Component) → x.begun ≡ some d → Mirrors start.args.s x →
+    let r : Record = c.args.r in
+    let numbered : (x : CertificateReading) (d : Component) → x.begun ≡ some d → Mirrors c.args.s x →
     eqb r.one 0 && eqb r.a (length d.weightings) ≡ true = (λ x d is m. rw (eq-eqb _ _ c.if-r-ne0.false, eq-eqb _ _ (c.if-r-s.false ∙ begun_counted _ x d is m))) in
-    let in_sequence : tie.Else2 = c in
-    let zeros : eqb (r in_sequence).b 0 && eqb (r in_sequence).c 0 ≡ true = rw (eq-eqb _ _ c.if-r-ne0-2.false, eq-eqb _ _ c.if-r-ne0-3.false) in
-    let has = (start in_sequence).pre.weighted in
+    let zeros : eqb r.b 0 && eqb r.c 0 ≡ true = rw (eq-eqb _ _ c.if-r-ne0-2.false, eq-eqb _ _ c.if-r-ne0-3.false) in
+    let has = c.requires.weighted in
     record {
       on = after_weight _ _ (omega arith) (omega arith) refl has refl (omega arith);
       means = λ x d m is due kind.
           let some_more : 1 ≤ x.more = omega (arith, m.more_is, c.if-s-eq0.false) in
-          rw (numbered in_sequence x d is m, zeros, le-leb 1 x.more some_more, kind)
+          rw (numbered x d is m, zeros, le-leb 1 x.more some_more, kind)
           (answers _ _ (weighting_mirrored _ x d is m has));
     }
