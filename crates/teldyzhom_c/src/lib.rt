@@ -1,4 +1,6 @@
-// The entries as C functions; include/teldyzhom.h declares them.
+// The entries as C functions, with the same clauses; include/teldyzhom.h declares them.
+#![tactic(auto)]
+
 ghost use Rattle.std.specs.Prelude.{◌≡◌, length};
 ghost use Rattle.records.specs.Outcomes.{refusal};
 ghost use Rattle.pairs.specs.Listing.{a_pair};
@@ -7,9 +9,9 @@ ghost use Rattle.judging.specs.Check.{check};
 ghost use Rattle.texts.specs.TextReading.{text_pack, pack_after, pack_value};
 ghost use Rattle.teldyzhom.specs.Entries.{Accepting, arc_value};
 
-use crate::Checked;
 use pairs::ArcAnswer;
 use records::Answer;
+use teldyzhom::Checked;
 
 // A refusal's number and 0, or 0 and a value.
 #[repr(C)]
@@ -25,7 +27,7 @@ pub extern "C" fn teldyzhom_check(pack: &[u8], certificate: &[u8]) -> u32
     ensures says { result ≡ check pack.now certificate.now }
     ensures means { Accepting (result ≡ 0) pack.now certificate.now }
 {
-    match crate::check_certificate(pack, certificate) {
+    match teldyzhom::check_certificate(pack, certificate) {
         Checked::Accepted => 0,
         Checked::Refused(x) => records::number(x),
     }
@@ -38,7 +40,7 @@ pub extern "C" fn teldyzhom_list(pack: &[u8], list: &mut [u8]) -> Reply
     ensures value { result.value ≡ list_value (listing pack.now (length list.old)) }
     ensures leaves { list.new ≡ buffer_after (listing pack.now (length list.old)) list.old }
 {
-    match crate::list_pairs(pack, list) {
+    match teldyzhom::list_pairs(pack, list) {
         Answer::Refused(x) => Reply {
             number: records::number(x),
             value: 0,
@@ -62,7 +64,7 @@ pub extern "C" fn teldyzhom_arc(
     ensures number { result.number ≡ refusal (arc_question pack.now (a_pair rule place) (a_pair other_rule other_place)) }
     ensures value { result.value ≡ arc_value (arc_question pack.now (a_pair rule place) (a_pair other_rule other_place)) }
 {
-    match crate::arc_runs(pack, rule, place, other_rule, other_place) {
+    match teldyzhom::arc_runs(pack, rule, place, other_rule, other_place) {
         ArcAnswer::Refused(x) => Reply {
             number: records::number(x),
             value: 0,
@@ -85,7 +87,7 @@ pub extern "C" fn teldyzhom_read_text(text: &[u8], pack: &mut [u8]) -> Reply
     ensures value { result.value ≡ pack_value (text_pack text.now (length pack.old)) }
     ensures leaves { pack.new ≡ pack_after (text_pack text.now (length pack.old)) pack.old }
 {
-    match crate::read_text(text, pack) {
+    match teldyzhom::read_text(text, pack) {
         Answer::Refused(x) => Reply {
             number: records::number(x),
             value: 0,
