@@ -35,7 +35,7 @@ ask_toolchain() { # CRATE WORD...
     local log verdict
     log=$(mktemp) || die "no room for a log"
     trap 'rm -f "$log"' EXIT
-    (cd "$here/crates/$1" && exec rt "${@:2}") 2>&1 | tee "$log" | sed -u -n '/^rt: /p' >&2
+    (cd "$here/crates/$1" && exec rt "${@:2}") 2>&1 | tee "$log" | sed -u -n '/^rt: running /d; /^rt: /p' >&2
     verdict=${PIPESTATUS[0]}
     [ "$verdict" -eq 0 ] || grep -v '^rt: ' "$log" | tail -n 40 >&2
     rm -f "$log"
