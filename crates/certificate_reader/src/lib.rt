@@ -1,3 +1,4 @@
+#![tactic(auto)]
 // Reads a certificate: refusals 2, 3 and 7, and how many components there are.
 mod steps;
 

@@ -1,3 +1,4 @@
+#![tactic(auto)]
 // The check of a pack and a certificate that were read: 8 to 13 and 17.
 mod component;
 mod weighing;

@@ -1,3 +1,4 @@
+#![tactic(auto)]
 // The pairs that a certificate names, kept as entries of rule, place and component, and the weightings under which they left.
 ghost use Rattle.std.specs.Prelude.{◌≡◌, cond, suc, ◌%◌, ◌≤◌, ◌<◌, eqb, length};
 ghost use Rattle.records.specs.Records.{all_records, fields};

@@ -1,3 +1,4 @@
+#![tactic(auto)]
 // Files and standard input, read so that a failure is told from the end; and files written whole or not at all.
 mod write;
 

@@ -1,3 +1,4 @@
+#![tactic(auto)]
 // Reads a pack from standard input and prints one line a pair, rule and place; a refused pack prints `refused` and the number.
 use files::FileRead;
 use records::Answer;

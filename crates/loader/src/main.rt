@@ -1,3 +1,4 @@
+#![tactic(auto)]
 // The loader's questions on the command line.
 mod numbers;
 

@@ -1,3 +1,4 @@
+#![tactic(auto)]
 // Reads a pack, refusals 1 to 6, into arrays that the caller lends.
 pub mod nodes;
 mod rules;

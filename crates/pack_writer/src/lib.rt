@@ -1,3 +1,4 @@
+#![tactic(auto)]
 // Writes a pack from the arrays in which it is kept to the caller's buffer.
 ghost use Rattle.std.specs.Prelude.{◌≡◌, map, ◌*◌, ◌≤◌, length, take};
 ghost use Rattle.terms.specs.Kept.{part, symbols_room};

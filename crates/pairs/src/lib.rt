@@ -1,3 +1,4 @@
+#![tactic(auto)]
 // The arc question's answer.
 use records::Refusal;
 

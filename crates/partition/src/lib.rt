@@ -1,3 +1,4 @@
+#![tactic(auto)]
 // 8 and 9: every pair stands once, and no arc leads back to a lower component.
 ghost use Rattle.std.specs.Prelude.{◌≡◌, ◌<◌, ◌≤◌, length};
 ghost use Rattle.partition.specs.Working.{slot, back_to, back_at, Keys, Roots, Lowered, NotedEntry, KeysAsked, BackAsked, SearchAsked, NextReached, BackAskedOf, Judgeable, OrderingAsked, OrderedAs};

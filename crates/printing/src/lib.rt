@@ -1,3 +1,4 @@
+#![tactic(auto)]
 // What the programs print. A function that answers says whether all of it was written.
 pub mod lines;
 pub mod words;

@@ -1,3 +1,4 @@
+#![tactic(auto)]
 // Records of 8 bytes, of which both files are made, and the table of which kind may stand after which.
 pub mod order;
 pub mod reader;

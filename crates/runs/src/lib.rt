@@ -1,3 +1,4 @@
+#![tactic(auto)]
 // The check of several pairs of files in one run: a line a pair, in their order, and a last line with the counts.
 ghost use Rattle.std.specs.Prelude.{◌≡◌, ◌+◌, ◌-◌, ◌/◌, ◌≤◌, ◌<◌};
 ghost use Rattle.runs.specs.declared.Ended.TheVariants.{Unjudged};

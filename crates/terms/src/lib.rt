@@ -1,3 +1,4 @@
+#![tactic(auto)]
 // Terms kept as bytes, a byte a node in prefix order.
 ghost use Rattle.std.specs.Prelude.{◌≡◌, ◌+◌, ◌≤◌, ◌<◌, length};
 ghost use Rattle.terms.specs.Sides.{flat};

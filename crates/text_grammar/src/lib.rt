@@ -1,3 +1,4 @@
+#![tactic(auto)]
 // Whether a text is in the grammar: nothing here calls itself, however deep the text is nested.
 ghost use Rattle.std.specs.Prelude.{◌≡◌, cond, List};
 ghost use Rattle.texts.specs.Tokens.{Name, tokens};

@@ -1,3 +1,4 @@
+#![tactic(auto)]
 // The names that VAR lists, in order, so that a name is looked up without going through the list.
 ghost use Rattle.std.specs.Prelude.{◌≡◌, List, ◌++◌, [], ◌∷◌, ◌+◌, ◌≤◌, ◌<◌, length, get_or};
 ghost use Rattle.texts.specs.Tokens.{Name, most_text_bytes};

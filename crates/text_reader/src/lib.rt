@@ -1,3 +1,4 @@
+#![tactic(auto)]
 // Reads a text of rules, refusals 15 and 16, into arrays that the caller lends.
 mod numbering;
 mod rules;

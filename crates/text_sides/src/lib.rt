@@ -1,3 +1,4 @@
+#![tactic(auto)]
 // The names of a side with their counts of arguments. The reader of a term and the reader of an argument list call each other; the
 // bytes left fall.
 ghost use Rattle.std.specs.Prelude.{◌≡◌, true, List, ◌∷◌, ◌++◌};

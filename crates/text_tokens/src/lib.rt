@@ -1,3 +1,4 @@
+#![tactic(auto)]
 // The tokens of a text, one after the other, and the names in it, by the places where they begin.
 ghost use Rattle.std.specs.Prelude.{◌≡◌, ◌+◌, ◌≤◌, length};
 ghost use Rattle.texts.specs.Tokens.{in_name, blank, most_text_bytes};

@@ -1,3 +1,4 @@
+#![tactic(auto)]
 // Linear polynomials: the polynomial of a side, the limit, and their order.
 pub mod judging;
 pub mod sums;

@@ -5,7 +5,7 @@ use Rattle.records.proofs.record_at.Statement.{statement}
 use Rattle.records.proofs.record_at.Tie as tie
 
 returns : tie.Need-returns
-returns c = c.fields.ensures ∙ c.before.word_at.ensures.record_is
+returns c = c.fields.ensures ∙ c.word_at.ensures.record_is
 
 pub record_at_spec : {M : Type 1} → statement M
 record_at_spec = tie.close (tie.spec (λ c κs. search rules) (λ c κs. search rules) returns)

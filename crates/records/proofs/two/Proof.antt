@@ -5,10 +5,10 @@ use Rattle.records.specs.Records.{two}
 use Rattle.records.proofs.two.Statement.{statement}
 use Rattle.records.proofs.two.Tie as tie
 
-mul_result : tie.Need-overflow-mul-result
+mul_result : tie.Need-overflow_mul-result
 mul_result c = omega arith
 
-add_result : tie.Need-overflow-add-result
+add_result : tie.Need-overflow_add-result
 add_result c = omega arith
 
 returns : tie.Need-returns

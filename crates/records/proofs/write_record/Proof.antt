@@ -20,7 +20,7 @@ eight_stores l at a b c d e f g h fits =
 
 returns : tie.Need-returns
 unfolding record_bytes low_two
-returns c = eight_stores _ _ _ _ _ _ _ _ _ _ c.before.before.before.before.before.before.requires
+returns c = eight_stores _ _ _ _ _ _ _ _ _ _ c.requires
 
 pub write_record_spec : {M : Type 1} → statement M
 write_record_spec =

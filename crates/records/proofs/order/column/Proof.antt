@@ -26,6 +26,6 @@ column_spec =
     tie.close
     (tie.spec
     (λ c. search rules)
-    (λ c. (omega arith, letter _ c.before.if1.false c.if2.true))
-    (λ c. (omega arith, other _ (inl c.if1.true)))
-    (λ c. (omega arith, other _ (inr c.if2.false))))
+    (λ c. (omega arith, letter _ c.in-65-to-90.if-kind-lt65-own.false c.in-65-to-90.if-kind-lt91-own.true))
+    (λ c. (omega arith, other _ (inl c.in_default.if-kind-lt65-own.true)))
+    (λ c. (omega arith, other _ (inr c.in_default.if-kind-lt91-own.false))))

@@ -9,4 +9,4 @@ kind_may_follow_spec =
     (tie.spec
     (λ c κs. search rules)
     (λ c κs. search rules)
-    (λ c. rw (← c.before.column.ensures.1) c.may_follow.ensures))
+    (λ c. rw (← c.column.ensures.1) c.may_follow.ensures))

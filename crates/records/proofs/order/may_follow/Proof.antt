@@ -43,12 +43,12 @@ may_follow_spec =
     (λ c κs. search rules)
     (λ c.
     let k = c.before.before in
-    while_due _ _ _ _ k.row_of.ensures k.before.requires.1 c.has.ensures (omega (arith, c.before.if1.true)))
+    while_due _ _ _ _ k.row_of-r.ensures k.requires.1 c.has.ensures (omega (arith, c.if-due-ne0.true)))
     (λ c κs. search rules)
     (λ c.
     let k = c.before.before.before in
-    after_due_weighted _ _ _ _ k.row_of.ensures k.before.requires.1 c.has2.ensures c.before.before.if1.false c.before.if2.true)
+    after_due_weighted _ _ _ _ k.row_of-r.ensures k.requires.1 c.has-then-weighted.ensures c.if-due-ne0.false c.if-weighted.true)
     (λ c κs. search rules)
     (λ c.
     let k = c.before.before.before in
-    after_due _ _ _ _ k.row_of.ensures k.before.requires.1 c.has3.ensures c.before.before.if1.false c.before.if2.false))
+    after_due _ _ _ _ k.row_of-r.ensures k.requires.1 c.has-2.ensures c.if-due-ne0.false c.if-weighted.false))

@@ -4,17 +4,17 @@ use Rattle.records.specs.Wanted.{wanted_at, if_wanted}
 use Rattle.records.proofs.reader.wanted_in.Statement.{statement}
 use Rattle.records.proofs.reader.wanted_in.Tie as tie
 
-returns : tie.Need-returns
+returns : tie.Need-returns-then-kind_may_follow
 unfolding wanted_at if_wanted
 returns c =
     let b = c.before in
-    rw (← b.before.record_at.ensures, ← b.kind_may_follow.ensures, c.if1.true)
+    rw (← b.record_at-r.ensures, ← b.kind_may_follow.ensures, c.if-kind_may_follow.true)
 
-returns_2 : tie.Need-returns-2
+returns_2 : tie.Need-returns
 unfolding wanted_at if_wanted
 returns_2 c =
     let b = c.before in
-    rw (← b.before.record_at.ensures, ← b.kind_may_follow.ensures, c.if1.false)
+    rw (← b.record_at-r.ensures, ← b.kind_may_follow.ensures, c.if-kind_may_follow.false)
 
 pub wanted_in_spec : {M : Type 1} → statement M
 wanted_in_spec = tie.close (tie.spec (λ c κs. search rules) (λ c κs. search rules) returns returns_2)
