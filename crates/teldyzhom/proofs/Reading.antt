@@ -1,4 +1,4 @@
--- What the reader of texts answers and writes, from the answers of the functions that it calls; and the length that it gives is small.
+-- What the reader of texts answers and writes, from the answers of the functions that it calls.
 use mathlib.Core.Path.{◌≡◌, refl, sym, ap, subst, ◌∙◌}
 use mathlib.Core.Bool.{Bool, true, false}
 use mathlib.Core.List.{List}

@@ -1,4 +1,4 @@
--- What the C functions answer, from the answers of the entries; and the count of the pairs is small.
+-- What the C functions answer, from the answers of the entries; and the count of the pairs and a pack's length are small.
 use mathlib.Core.Path.{◌≡◌, refl, sym, ap, ◌∙◌}
 use mathlib.Core.Bool.{Bool, true, false, cond}
 use mathlib.Core.List.{List, [], ◌∷◌}
@@ -11,17 +11,20 @@ use Rattle.rewriting.specs.Pairs.{Pair, subterms, defined_root}
 use Rattle.records.specs.declared.Refusal.{Refusal}
 use Rattle.records.specs.declared.Answer.{Answer}
 use Rattle.records.specs.declared.Answer.TheVariants.{Passed, Refused}
-use Rattle.records.specs.Outcomes.{Outcome, refused, passed, after, refusal}
+use Rattle.records.specs.Outcomes.{Outcome, refused, passed, after, unless, refusal}
 use Rattle.records.specs.Answers.{number_of, answer_outcome}
 use Rattle.terms.proofs.Parsing.{length_flat}
-use Rattle.packs.specs.Encoding.{GoodPack}
-use Rattle.packs.specs.PackReading.{read_pack}
+use Rattle.packs.specs.Encoding.{GoodPack, pack_bytes}
+use Rattle.packs.specs.PackReading.{most_pack_bytes, read_pack}
 use Rattle.packs.proofs.OnlyEncodings.{pack_good}
 use Rattle.pairs.specs.declared.ArcAnswer.{ArcAnswer}
 use Rattle.pairs.specs.declared.ArcAnswer.TheVariants.{Yes, No, Refused as ArcRefused}
 use Rattle.pairs.specs.Listing.{a_pair, pairs_from, pairs_of, pairs}
 use Rattle.pairs.specs.Answers.{listing, list_value}
 use Rattle.pairs.specs.Says.{count_outcome, ListedAs, ArcAs}
+use Rattle.texts.specs.TextReading.{read_text, text_pack, pack_value}
+use Rattle.texts.specs.Says.{length_outcome, ReadAs}
+use Rattle.texts.proofs.Sizes.{read_small}
 use Rattle.teldyzhom.specs.Entries.{arc_value}
 
 -- a pack has at most 2,048 pairs: 32 for each of its 64 rules
