@@ -104,7 +104,7 @@ module _ (p : System) (m : Strategy) (j : Judge) (good : Good p) (sound : Sound 
   components_end : (ls : List Pair) (cs : List Component) → Somewhere ls cs → back_arc j ls cs ≡ false →
       Each (λ c. component_refusal p j c ≡ 0) cs → Ending (all_pairs cs)
   unfolding all_pairs back_arc component_refusal
-  components_end ls [] somewhere none h x a = absurd (Memᴰ.not_nil a.1)
+  components_end ls [] somewhere none h x a = absurd (Memᴰ.not-nil a.1)
   components_end ls (c ∷ cs) somewhere none h x a =
       let none_up = or_right_false (arcs_among j c.pairs ls) _ none in
       let higher = components_end (ls ++ c.pairs) cs (one_lower ls c cs somewhere) none_up (each_tail h) in

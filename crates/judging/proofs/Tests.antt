@@ -31,7 +31,7 @@ unfolding each_once
 once_counted stated (Memᴰ.head {x = r} e) h = rw e (eqb-true _ _ (and_left (eqb (count_pair r stated) 1) _ h))
 once_counted stated (Memᴰ.tail {x = r} i) h = once_counted stated i (and_right (eqb (count_pair r stated) 1) _ h)
 
-counted_once : {wanted : List Pair} (stated : List Pair) → Each (λ q. count_pair q stated ≡ 1) wanted → each_once wanted stated ≡ true
+counted_once : (stated : List Pair) {wanted : List Pair} → Each (λ q. count_pair q stated ≡ 1) wanted → each_once wanted stated ≡ true
 unfolding each_once
 counted_once stated each_nil = refl
 counted_once stated (each_cons q qs h hs) = and_both {a = eqb (count_pair q stated) 1} (eq-eqb _ _ h) (counted_once stated hs)

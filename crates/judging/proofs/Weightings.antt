@@ -211,7 +211,7 @@ module _ (p : System) (good : Good p) (rs : List Rule) (small_rules : Each Small
       PairsFall p w qs
   unfolding is_none
   last_falls w _ qs _ are l none_remains e = (all_fall p good w qs are).0 (rw (← (leave_is p good w are l)))
-  last_falls w _ qs _ are l (under_next v vs ss rest h o k more) e = absurd (cons-ne-nil v vs e)
+  last_falls w _ qs _ are l (under_next v vs ss left h o k more) e = absurd (cons-ne-nil v vs e)
 
   shows_back : (ws : List Weighting) (qs : List Pair) → ArePairs p qs → AllLeave p rs ws qs → number ws qs ≡ 0
   unfolding weightings_refusal

@@ -199,16 +199,24 @@ module _ (p : System) where
   open_merged t u v h k o =
       by_test (is_open u) (λ d. rw (merged_open u v d) k) (λ c. rw (merged_closed u v c o) h)
 
+  -- where neither root is open, the arguments of compatible terms are compatible
+  inside : {t v : Tree} {f g : ℕ} {us vs : Tree} → Compatible t v → t ≡ app f us → v ≡ app g vs → defined p f ≡ false → defined p g ≡ false →
+      Compatible us vs
+  unfolding is_open
+  inside (open_first t v o) e d c b = absurd (not_both _ (rw e at o) c)
+  inside (open_second t v o) e d c b = absurd (not_both _ (rw d at o) b)
+  inside {us = us} {vs = vs} (same_symbol h xs ys a k) e d c b = let i : xs ≡ us = cc in let j : ys ≡ vs = cc in rw (i, j) at k
+  inside no_arguments e d c b = absurd cc
+  inside (each_argument x xs y ys h hs) e d c b = absurd cc
+
   pub merged_compatible : {t u v : Tree} → Compatible t u → Compatible t v → Compatible u v → Compatible t (merged u v)
   unfolding merged is_open
   merged_compatible (open_first t u o) k l = open_first t _ o
   merged_compatible {v = v} (open_second t u o) k l = rw (merged_open u v o) k
   merged_compatible (same_symbol f ts us c h) (open_first t v o) l = absurd (not_both _ o c)
   merged_compatible (same_symbol f ts us c h) (open_second t v o) l = open_merged _ _ v (same_symbol f ts us c h) (open_second _ v o) o
-  merged_compatible (same_symbol f ts us c h) (same_symbol g xs vs d k) (open_first u v o) = absurd (not_both _ o c)
-  merged_compatible (same_symbol f ts us c h) (same_symbol g xs vs d k) (open_second u v o) = absurd (not_both _ o c)
-  merged_compatible (same_symbol f ts us c h) (same_symbol g xs vs d k) (same_symbol e ys zs b l) =
-      rw (merged_symbols f us vs c) (same_symbol f ts _ c (merged_compatible h k l))
+  merged_compatible (same_symbol f ts us c h) (same_symbol g xs vs d k) l =
+      rw (merged_symbols f us vs c) (same_symbol f ts _ c (merged_compatible h k (inside l refl refl c c)))
   merged_compatible no_arguments k l = no_arguments
   merged_compatible (each_argument t ts u us h hs) (open_first x v o) l = absurd (false≢true o)
   merged_compatible (each_argument t ts u us h hs) (open_second x v o) l = open_merged _ _ v (each_argument t ts u us h hs) (open_second _ v o) o

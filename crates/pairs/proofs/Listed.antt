@@ -160,7 +160,7 @@ module _ {A : Type 0} (f g : A → ℕ) where
   rising_first x each_nil h = refl
   rising_first x (each_cons y ys r rs) h = and_both r h
 
-  rising_append : {xs ys : List A} → rising f g xs ≡ true → rising f g ys ≡ true → Each (λ x. Each (Below x) ys) xs →
+  rising_append : {ys xs : List A} → rising f g xs ≡ true → rising f g ys ≡ true → Each (λ x. Each (Below x) ys) xs →
       rising f g (xs ++ ys) ≡ true
   unfolding rising
   rising_append h k each_nil = k

@@ -35,7 +35,7 @@ module _ (d : Weighting) where
 
 pub in_time : {rs : List Rule} {ws : List Weighting} {cs : List Call} {c : Call} → Weighed rs ws cs → Memᴰ c cs → left_under ws c < length ws
 unfolding left_under
-in_time all_left i = absurd (Memᴰ.not_nil i)
+in_time all_left i = absurd (Memᴰ.not-nil i)
 in_time {c = c} (one_more w ws cs over_rules over_calls rules calls leaves others) i = by (call_falls w c) refl (λ e. in_time others (without_keeps (call_falls w) i e))
   where
     by : (b : Bool) → call_falls w c ≡ b → (call_falls w c ≡ false → left_under ws c < length ws) → cond b 0 (suc (left_under ws c)) < suc (length ws)

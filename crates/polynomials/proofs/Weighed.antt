@@ -76,7 +76,7 @@ module _ (p : System) (m : Strategy) (good : Good p) (rs : List Rule) where
   pub component_terminates :
       {ws : List Weighting} {cs : List Call} → Weighed rs ws cs → (x : Link) → Valid p m x → Memᴰ (call p x.pair) cs →
       SN (NextAmong p m rs cs) x
-  component_terminates all_left x v i = absurd (Memᴰ.not_nil i)
+  component_terminates all_left x v i = absurd (Memᴰ.not-nil i)
   component_terminates (one_more w ws cs over_rules over_calls rules calls leaves others) x v i =
       descent (descending w cs rules calls)
       (λ y c e. component_terminates others y c.0 (without_keeps (call_falls w) c.1 e))

@@ -16,6 +16,7 @@ use Rattle.texts.proofs.Names.{same_refl, same_eq}
 
 -- EACH is every member
 pub each_member : {A : Type 0} {P : A → Type 0} {x : A} {xs : List A} → Each P xs → Memᴰ x xs → P x
+each_member each_nil i = elim i [ ]
 each_member (each_cons y ys h hs) (Memᴰ.head e) = rw e h
 each_member (each_cons y ys h hs) (Memᴰ.tail i) = each_member hs i
 
@@ -48,6 +49,7 @@ all_agree all (u ∷ us) (each_cons _ _ h hs) =
 first_of : (u : Use) (us : List Use) → Memᴰ u us → ((v : Use) → Memᴰ v us → u.name ≡ v.name → u.count ≡ v.count) →
     u.count ≡ first_count u.name us
 unfolding first_count
+first_of u [] i h = elim i [ ]
 first_of u (v ∷ vs) (Memᴰ.head e) h =
     let k : same u.name v.name ≡ true = rw e (same_refl v.name) in
     rw k (h v (Memᴰ.head refl) (same_eq u.name v.name k))

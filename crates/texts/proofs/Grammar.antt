@@ -83,6 +83,7 @@ module _ (vs : List Name) where
   name_starts n ts between os l rs at_between = refl
   name_starts n ts wanted os l rs at_wanted = refl
   name_starts n ts opened os l rs at_opened = refl
+  name_starts n ts (complete _) os l rs x'' = elim x'' [ ]
 
   list_starts : (n : Name) (ts : List Token) (os : List OpenList) (l : Option TermPhrase) (rs : List TextRule) → not (among n vs) ≡ true
       → tokens_read vs (opens ∷ ts) (standing (complete (bare n)) os l rs) ≡ tokens_read vs ts (standing opened (open_list n nil ∷ os) l rs)

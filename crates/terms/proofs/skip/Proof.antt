@@ -21,12 +21,12 @@ pub record Left (arities nodes : List ℕ) (at : ℕ) (s : TermAt arities nodes 
   pub is : Rest s.system nodes i wanted rest
   pub ends : i + length (flat rest) ≡ at + length (flat s.term)
 
-abbrev invariant-loop : tie.invariant-loop
-invariant-loop arities nodes at wanted₀ i₀ wanted i =
+abbrev invariant-loop-wanted : tie.invariant-loop-wanted
+invariant-loop-wanted arities nodes at wanted₀ i₀ wanted i =
     (at ≤ i) × (wanted ≤ 1 + 255 * (i - at)) × ((s : TermAt arities nodes at) → Left arities nodes at s wanted i)
 
-abbrev decreases-loop : tie.decreases-loop
-decreases-loop arities nodes at wanted₀ i₀ wanted i = length nodes - i
+abbrev decreases-loop-wanted : tie.decreases-loop-wanted
+decreases-loop-wanted arities nodes at wanted₀ i₀ wanted i = length nodes - i
 
 whole : (arities nodes : List ℕ) (at : ℕ) (s : TermAt arities nodes at) → Left arities nodes at s 1 at
 unfolding flat width is_list well is_term
@@ -47,29 +47,29 @@ module _ (arities nodes : List ℕ) (at wanted i : ℕ) (s : TermAt arities node
       let n = node_read s.system arities nodes s.arities_are s.arities_few i wanted l.rest h l.is in
       record { rest = n.rest; is = n.is; ends = omega (arith, n.shorter, l.ends) }
 
-read : tie.Need-shared-slice-read-code-arity invariant-loop decreases-loop
+read : tie.Need-bounds-nodes-i invariant-loop-wanted decreases-loop-wanted
 read c =
-    let l = c.before.before.loop in
-    let s = c.before.before.before.before.before.requires.2 in
-    within _ _ _ l.wanted l.i s c.before.loop-test.true (l.invariant.2 s)
+    let l = c.loop-wanted in
+    let s = c.requires.2 in
+    within _ _ _ l.wanted l.i s c.loop-wanted-test.true (l.invariant.2 s)
 
-goes_on : (c : tie.After-code-arity invariant-loop decreases-loop) → c.before.before.before.loop.i < length c.before.before.before.before.before.before.args.nodes.now
+goes_on : (c : tie.After-code_arity invariant-loop-wanted decreases-loop-wanted) → c.loop-wanted.i < length c.args.nodes.now
 goes_on c =
-    let l = c.before.before.before.loop in
-    let s = c.before.before.before.before.before.before.requires.2 in
-    within _ _ _ l.wanted l.i s c.before.before.loop-test.true (l.invariant.2 s)
+    let l = c.loop-wanted in
+    let s = c.requires.2 in
+    within _ _ _ l.wanted l.i s c.loop-wanted-test.true (l.invariant.2 s)
 
-again : tie.Need-loop-preserved invariant-loop decreases-loop
+again : tie.Need-loop-wanted-preserved invariant-loop-wanted decreases-loop-wanted
 again c =
-    let l = c.before.before.before.loop in (
+    let l = c.loop-wanted in (
       omega arith,
       omega arith,
-      λ s. rw c.code_arity.ensures.0 (less _ _ _ l.wanted l.i s c.before.before.loop-test.true (l.invariant.2 s)),
+      λ s. rw c.code_arity.ensures.0 (less _ _ _ l.wanted l.i s c.loop-wanted-test.true (l.invariant.2 s)),
     )
 
-returns : tie.Need-returns invariant-loop decreases-loop
+returns : tie.Need-returns invariant-loop-wanted decreases-loop-wanted
 returns c =
-    let l = c.before.loop in
+    let l = c.loop-wanted in
     λ s.
     let t = l.invariant.2 s in
     let z : l.wanted ≡ 0 = omega arith in
@@ -80,8 +80,8 @@ pub skip_spec : {M : Type 1} → statement M
 skip_spec =
     tie.close
     (tie.spec
-    invariant-loop
-    decreases-loop
+    invariant-loop-wanted
+    decreases-loop-wanted
     (λ c. (omega arith, omega arith, λ s. whole _ _ _ s))
     (λ c. omega arith)
     read

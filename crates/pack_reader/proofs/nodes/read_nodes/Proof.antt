@@ -91,12 +91,12 @@ record SoFar (pack : List ℕ) (from count symbols base : ℕ) (before now : Lis
   untouched : SameBefore base before now
   kept : take j (drop base now) ≡ codes read
 
-abbrev invariant-loop : tie.invariant-loop
-invariant-loop pack from count symbols nodes₀ base n last₀ j₀ nodes last j =
+abbrev invariant-loop-j : tie.invariant-loop-j
+invariant-loop-j pack from count symbols nodes₀ base n last₀ j₀ nodes last j =
     (j ≤ count) × Inside last × SoFar pack from count symbols base nodes₀ nodes last j
 
-abbrev decreases-loop : tie.decreases-loop
-decreases-loop pack from count symbols nodes₀ base n last₀ j₀ nodes last j = count - j
+abbrev decreases-loop-j : tie.decreases-loop-j
+decreases-loop-j pack from count symbols nodes₀ base n last₀ j₀ nodes last j = count - j
 
 module _ (pack : List ℕ) (from count symbols base : ℕ) (before : List ℕ) where
   start : SoFar pack from count symbols base before before 2 0
@@ -142,70 +142,70 @@ module _ (pack : List ℕ) (from count symbols base : ℕ) (before : List ℕ) w
 -- THE NEEDS
 
 -- what the record reader answered
-strayed : (c : tie.After-enum-told invariant-loop decreases-loop)
-    → let l = c.before.before.before.before.before.loop in
-    let a = c.before.before.before.before.before.before.before.before.args in
+strayed : (c : tie.In_default invariant-loop-j decreases-loop-j)
+    → let l = c.loop-j in
+    let a = c.args in
     wanted_at a.pack.now (8 * (a.from + l.j)) l.last (a.count - l.j) false ≡ Stray
-strayed c = sym c.before.before.read_wanted.ensures ∙ c.enum_told.given.1
+strayed c = sym c.read_wanted.ensures ∙ c.in_default.is
 
-found : (c : tie.After-known-told invariant-loop decreases-loop)
-    → let l = c.before.before.before.before.before.before.loop in
-    let a = c.before.before.before.before.before.before.before.before.before.args in
-    wanted_at a.pack.now (8 * (a.from + l.j)) l.last (a.count - l.j) false ≡ Found c.before.r.given.0.0
-found c = sym c.before.before.before.read_wanted.ensures ∙ c.before.r.given.1
+found : (c : tie.In-Found invariant-loop-j decreases-loop-j)
+    → let l = c.loop-j in
+    let a = c.args in
+    wanted_at a.pack.now (8 * (a.from + l.j)) l.last (a.count - l.j) false ≡ Found c.in-Found.r
+found c = sym c.read_wanted.ensures ∙ c.in-Found.is
 
 -- and the node that was read
-read : (c : tie.After-known-told3 invariant-loop decreases-loop)
-    → let w = c.before.before.before.before in
-    let l = w.before.before.before.before.before.before.loop in
-    let a = w.before.before.before.before.before.before.before.before.before.args in
-    let b = c.before.code.given.0.0 in
+read : (c : tie.In-Passed invariant-loop-j decreases-loop-j)
+    → let w = c.before.before in
+    let l = w.loop-j in
+    let a = w.args in
+    let b = c.in-Passed.code in
     NodeRead a.pack.now a.from a.count a.symbols l.last l.j (3 + b / 64) b
 read c =
-    let w = c.before.before.before.before in
-    let t = w.before.before.before.before in
-    let l = t.before.before.loop in
-    node_read _ _ _ _ l.last l.j t.before.loop-test.true t.if1.false (found w) l.invariant.1 (omega arith)
-    (sym (ap answer_outcome c.before.code.given.1) ∙ c.before.before.before.node_code.ensures)
+    let w = c.before.before in
+    let t = w.before.before in
+    let l = t.loop-j in
+    node_read _ _ _ _ l.last l.j t.loop-j-test.true t.if-n-from.false (found w) l.invariant.1 (omega arith)
+    (sym (ap answer_outcome c.in-Passed.is) ∙ c.node_code.ensures)
 
-file_end : tie.Need-returns invariant-loop decreases-loop
+file_end : tie.Need-returns-then-n-from invariant-loop-j decreases-loop-j
 file_end c =
-    let l = c.before.before.loop in
-    refuses _ _ _ _ _ _ _ l.last l.j l.invariant.2 _ refl (none_stands _ _ _ _ l.last l.j c.before.loop-test.true c.if1.true)
+    let l = c.loop-j in
+    refuses _ _ _ _ _ _ _ l.last l.j l.invariant.2 _ refl (none_stands _ _ _ _ l.last l.j c.loop-j-test.true c.if-n-from.true)
 
-stray_record : tie.Need-returns-2 invariant-loop decreases-loop
+stray_record : tie.Need-returns-in_default invariant-loop-j decreases-loop-j
 stray_record c =
-    let t = c.before.before.before in
-    let l = t.before.before.loop in
-    refuses _ _ _ _ _ _ _ l.last l.j l.invariant.2 _ refl (stray _ _ _ _ l.last l.j t.before.loop-test.true t.if1.false (strayed c))
+    let t = c.before.before in
+    let l = t.loop-j in
+    refuses _ _ _ _ _ _ _ l.last l.j l.invariant.2 _ refl (stray _ _ _ _ l.last l.j t.loop-j-test.true t.if-n-from.false (strayed c))
 
-bad_node : tie.Need-returns-3 invariant-loop decreases-loop
+bad_node : tie.Need-returns-in-Refused invariant-loop-j decreases-loop-j
 bad_node c =
-    let w = c.before.before.before.before in
-    let t = w.before.before.before.before in
-    let l = t.before.before.loop in
+    let w = c.before.before in
+    let t = w.before.before in
+    let l = t.loop-j in
     refuses _ _ _ _ _ _ _ l.last l.j l.invariant.2 _ refl
-    (node_refused _ _ _ _ l.last l.j t.before.loop-test.true t.if1.false (found w)
-    (sym (ap answer_outcome c.before.x.given.1) ∙ c.before.before.before.node_code.ensures))
+    (node_refused _ _ _ _ l.last l.j t.loop-j-test.true t.if-n-from.false (found w)
+    (sym (ap answer_outcome c.in-Refused.is) ∙ c.node_code.ensures))
 
-again : tie.Need-loop-preserved invariant-loop decreases-loop
+again : tie.Need-loop-j-preserved invariant-loop-j decreases-loop-j
 again c =
-    let l = c.before.before.before.before.before.before.before.before.before.before.loop in
+    let l = c.loop-j in
     let n = read c in
     let step = more _ _ _ _ _ _ l.nodes l.last l.j l.invariant.2 n (omega arith) in
     (omega arith, n.inside, step)
 
-all_read : tie.Need-returns-4 invariant-loop decreases-loop
+all_read : tie.Need-returns invariant-loop-j decreases-loop-j
 all_read c =
-    let l = c.before.loop in
-    ends _ _ _ _ _ _ l.nodes l.last l.j l.invariant.2 l.invariant.0 c.loop-test.false (omega arith)
+    let l = c.loop-j in
+    ends _ _ _ _ _ _ l.nodes l.last l.j l.invariant.2 l.invariant.0 c.loop-j-test.false (omega arith)
 
 pub read_nodes_spec : {M : Type 1} → statement M
 read_nodes_spec =
     tie.close
     (tie.spec
-    invariant-loop
-    decreases-loop
+    invariant-loop-j
+    decreases-loop-j
     (λ c. (omega arith, at_rule, start _ _ _ _ _ _))
     (λ c. omega arith)
     (λ c. omega arith)
@@ -213,16 +213,16 @@ read_nodes_spec =
     (λ c. omega arith)
     (λ c. omega arith)
     (λ c. omega arith)
-    (λ c κs. omega (arith, inside_row c.before.before.loop.invariant.1))
-    (λ c. c.match.keys1)
-    (λ c. c.match.keys2)
+    (λ c κs. omega (arith, inside_row c.loop-j.invariant.1))
+    (λ c. c.in-Found.in-Found-own.keys1)
+    (λ c. c.in_default.in_default-own.keys2)
     (λ c. omega arith)
     stray_record
     (λ c κs. search rules)
-    (λ c. c.match2.keys1)
+    (λ c. c.in-Refused.in-Refused-own.keys1)
     (λ c. omega arith)
     bad_node
-    (λ c. c.match2.keys2)
+    (λ c. c.in-Passed.in-Passed-own.keys2)
     (λ c. let n = read c in omega (arith, n.byte_is, code_small _ n.node (omega arith) n.small))
     (λ c. omega arith)
     (λ c. omega arith)

@@ -51,36 +51,36 @@ module _ (symbols b c base last : ℕ) (rs : List Record) (ar before now : List 
       let row : last ≡ y.last = passed_same (ap answer_outcome (sym is) ∙ h.answers) in
       record { answers = rw (← s.0, ← s.1, ← judged, ← row) told; untouched = h.untouched; kept = h.kept }
 
-refused_nodes : tie.Need-returns
+refused_nodes : tie.Need-returns-in-Refused
 refused_nodes c =
-    let n = c.before.before.before.before.before in
-    let a = n.before.before.before.before.before.args in
-    nodes_refused (node_steps a.symbols 2 (a.b + a.c) (drop a.from (all_records a.pack.now))) c.before.x.given.0.0 _ _ _ _ n.read_nodes.new.1.1.1.1.0 c.before.x.given.1 n.read_nodes.ensures
+    let n = c.before.before.before in
+    let a = n.args in
+    nodes_refused (node_steps a.symbols 2 (a.b + a.c) (drop a.from (all_records a.pack.now))) c.in-Refused.x _ _ _ _ n.read_nodes.new.1.1.1.1.0 c.in-Refused.is n.read_nodes.ensures
 
-judged : (c : tie.After-judge-rule) (x : Answer) → let l = c.before.before.before in
+judged : (c : tie.After-judge_rule) (x : Answer) → let l = c.before.before in
     let n = l.before.before.before.before in
-    let a = n.before.before.before.before.before.args in
-    answer_outcome x ≡ after (answer_outcome c.judge_rule.result) (λ k. passed l.last.given.0.0)
+    let a = n.args in
+    answer_outcome x ≡ after (answer_outcome c.judge_rule.result) (λ k. passed c.in-Passed.last)
     → RuleRead (node_steps a.symbols 2 (a.b + a.c) (drop a.from (all_records a.pack.now))) a.b a.arities.now x a.base a.nodes.now
-    n.read_nodes.new.1.1.1.1.0
+    c.read_nodes.new.1.1.1.1.0
 judged c x told =
-    let l = c.before.before.before in
+    let l = c.before.before in
     let n = l.before.before.before.before in
-    let a = n.before.before.before.before.before.args in
-    nodes_judged a.symbols a.b a.c a.base l.last.given.0.0 _ _ _ _ c.judge_rule.result x _ refl l.last.given.1 n.read_nodes.ensures
+    let a = n.args in
+    nodes_judged a.symbols a.b a.c a.base c.in-Passed.last _ _ _ _ c.judge_rule.result x _ refl c.in-Passed.is c.read_nodes.ensures
     c.judge_rule.ensures told
 
-refused_sides : tie.Need-returns-2
+refused_sides : tie.Need-returns-in-Refused-judge_rule
 refused_sides c =
-    let j = c.before.before.before in
-    judged j (Refused c.before.x2.given.0.0)
-    (ap (λ (a : Answer). after (answer_outcome a) (λ k. passed j.before.before.before.last.given.0.0)) (sym c.before.x2.given.1))
+    let j = c.before in
+    judged j (Refused c.in-Refused-judge_rule.x)
+    (ap (λ (a : Answer). after (answer_outcome a) (λ k. passed j.in-Passed.last)) (sym c.in-Refused-judge_rule.is))
 
-passed_rule : tie.Need-returns-3
+passed_rule : tie.Need-returns-in-Passed-judge_rule
 passed_rule c =
-    let j = c.before.before in
-    let row = j.before.before.before.last.given.0.0 in
-    judged j (Passed row) (ap (λ (a : Answer). after (answer_outcome a) (λ k. passed row)) (sym c.enum_told.given.1))
+    let j = c.before in
+    let row = j.in-Passed.last in
+    judged j (Passed row) (ap (λ (a : Answer). after (answer_outcome a) (λ k. passed row)) (sym c.in-Passed-judge_rule.is))
 
 pub read_rule_spec : {M : Type 1} → statement M
 read_rule_spec =

@@ -25,12 +25,12 @@ use Rattle.pack_reader.proofs.RulesSoFar.{from_rules, SoFar, start, ends, ends_e
 use Rattle.pack_reader.proofs.rules.read_rules.Statement.{statement}
 use Rattle.pack_reader.proofs.rules.read_rules.Tie as tie
 
-abbrev invariant-loop : tie.invariant-loop
-invariant-loop pack symbols arities starts₀ nodes₀ n last₀ at₀ base₀ i₀ starts nodes last at base i =
+abbrev invariant-loop-at : tie.invariant-loop-at
+invariant-loop-at pack symbols arities starts₀ nodes₀ n last₀ at₀ base₀ i₀ starts nodes last at base i =
     (i ≤ 64) × (base ≤ 64 * i) × (length starts ≡ 129) × (length nodes ≡ 4096) × SoFar pack arities symbols starts nodes last at base i
 
-abbrev decreases-loop : tie.decreases-loop
-decreases-loop pack symbols arities starts₀ nodes₀ n last₀ at₀ base₀ i₀ starts nodes last at base i = length pack / 8 - at
+abbrev decreases-loop-at : tie.decreases-loop-at
+decreases-loop-at pack symbols arities starts₀ nodes₀ n last₀ at₀ base₀ i₀ starts nodes last at base i = length pack / 8 - at
 
 refuses : (o : Outcome System) (ar : List ℕ) (x : Answer) (starts nodes : List ℕ) (n : ℕ) → answer_outcome x ≡ refused n → o ≡ refused n → RulesRead o ar x starts nodes
 unfolding RulesRead
@@ -59,12 +59,12 @@ unfolding row_after
 row_some zero e = absurd (e refl)
 row_some (suc n) e = refl
 
-first_row : (c : tie.Joined1 invariant-loop decreases-loop) → c.if1.new ≡ row_after c.before.before.before.before.before.args.symbols
-first_row c = ⊎_elim (λ w. w.1 ∙ sym (row_none _ w.0.taken)) (λ w. w.1 ∙ sym (row_some _ w.0.left)) c.if1.branch
+first_row : (c : tie.Joined-symbols-eq0 invariant-loop-at decreases-loop-at) → c.if-symbols-eq0.new ≡ row_after c.args.symbols
+first_row c = ⊎_elim (λ w. w.1 ∙ sym (row_none _ w.0.taken)) (λ w. w.1 ∙ sym (row_some _ w.0.left)) c.if-symbols-eq0.branch
 
-starts : tie.Need-loop-init invariant-loop decreases-loop
+starts : tie.Need-loop-at-init invariant-loop-at decreases-loop-at
 starts c =
-    let a = c.before.before.before.before.before.args in (
+    let a = c.args in (
       omega arith,
       omega arith,
       simp length-set (omega arith),
@@ -73,90 +73,90 @@ starts c =
     )
 
 -- what the record reader answered
-strayed : (c : tie.After-enum-told invariant-loop decreases-loop)
-    → let l = c.before.before.before.before.loop in
-    wanted_at c.before.before.before.before.before.before.before.before.before.before.args.pack.now (8 * l.at) l.last 0 false ≡ Stray
-strayed c = sym c.before.before.read_wanted.ensures ∙ c.enum_told.given.1
+strayed : (c : tie.In_default invariant-loop-at decreases-loop-at)
+    → let l = c.loop-at in
+    wanted_at c.args.pack.now (8 * l.at) l.last 0 false ≡ Stray
+strayed c = sym c.read_wanted.ensures ∙ c.in_default.is
 
-found : (c : tie.After-r invariant-loop decreases-loop)
-    → let l = c.before.before.before.before.loop in
-    wanted_at c.before.before.before.before.before.before.before.before.before.before.args.pack.now (8 * l.at) l.last 0 false ≡ Found c.r.given.0.0
-found c = sym c.before.before.read_wanted.ensures ∙ c.r.given.1
+found : (c : tie.In-Found-2 invariant-loop-at decreases-loop-at)
+    → let l = c.loop-at in
+    wanted_at c.args.pack.now (8 * l.at) l.last 0 false ≡ Found c.in-Found.r
+found c = sym c.read_wanted.ensures ∙ c.in-Found.is
 
 -- the head that passed
-head : (c : tie.After-enum-told2 invariant-loop decreases-loop) → let h = c.before.before in
-    rule_header h.before.before.before.before.before.before.before.before.loop.i h.before.before.before.before.r.given.0.0
-    ≡ passed c.enum_told2.given.0.0
-head c = sym c.before.before.header.ensures ∙ ap answer_outcome c.enum_told2.given.1
+head : (c : tie.In-Passed invariant-loop-at decreases-loop-at) → let h = c.before in
+    rule_header h.loop-at.i h.in-Found.r
+    ≡ passed c.in-Passed.field-0
+head c = sym c.header.ensures ∙ ap answer_outcome c.in-Passed.is
 
-told : (c : tie.After-enum-told2 invariant-loop decreases-loop)
-    → let h = c.before.before in
-    HeaderTold h.before.before.before.before.before.before.before.before.loop.i h.before.before.before.before.r.given.0.0
+told : (c : tie.In-Passed invariant-loop-at decreases-loop-at)
+    → let h = c.before in
+    HeaderTold h.loop-at.i h.in-Found.r
 told c = header_told _ _ _ (head c)
 
 -- the arrays lent are as long as they were
-same : (c : tie.After-enum-told2 invariant-loop decreases-loop)
-    → let t = c.before.before.before.before.before.before.before.before.before in
-    let a = t.before.before.before.before.before.before.before.args in
-    (length t.before.loop.starts ≡ length a.starts.now) × (length t.before.loop.nodes ≡ length a.nodes.now)
+same : (c : tie.In-Passed invariant-loop-at decreases-loop-at)
+    → let t = c.before.before.before.before.before.before in
+    let a = t.args in
+    (length t.loop-at.starts ≡ length a.starts.now) × (length t.loop-at.nodes ≡ length a.nodes.now)
 same c =
-    let t = c.before.before.before.before.before.before.before.before.before in
-    let asked = t.before.before.before.before.before.before.before.requires in
-    omega (arith, asked, t.before.loop.invariant)
+    let t = c.before.before.before.before.before.before in
+    let asked = t.requires in
+    omega (arith, asked, t.loop-at.invariant)
 
-stray_record : tie.Need-returns invariant-loop decreases-loop
+stray_record : tie.Need-returns-in_default invariant-loop-at decreases-loop-at
 stray_record c =
-    let t = c.before.before.before in
-    let l = t.before.loop in
+    let t = c.before.before in
+    let l = t.loop-at in
     refuses _ _ _ _ _ _ refl
-    (stray _ _ _ (omega arith) _ _ l.last l.at l.base l.i l.invariant.4 t.loop-test.true (strayed c))
+    (stray _ _ _ (omega arith) _ _ l.last l.at l.base l.i l.invariant.4 t.loop-at-test.true (strayed c))
 
-head_refused : tie.Need-returns-2 invariant-loop decreases-loop
+head_refused : tie.Need-returns-in-Refused invariant-loop-at decreases-loop-at
 head_refused c =
-    let h = c.before.before.before in
+    let h = c.before in
     let r = h.before.before.before.before in
-    let t = r.before.before.before in
-    let l = t.before.loop in
-    let asked = t.before.before.before.before.before.before.before.requires in
+    let t = r.before.before in
+    let l = t.loop-at in
+    let asked = t.requires in
     refuses _ _ _ _ _ _ refl
-    (header_refuses _ _ _ (omega arith) _ _ l.last l.at l.base l.i l.invariant.4 t.loop-test.true r.r.given.0.0 (found r) asked.no_symbol_more _
-    (sym h.header.ensures ∙ ap answer_outcome c.before.x.given.1))
+    (header_refuses _ _ _ (omega arith) _ _ l.last l.at l.base l.i l.invariant.4 t.loop-at-test.true r.in-Found.r (found r) asked.no_symbol_more _
+    (sym h.header.ensures ∙ ap answer_outcome c.in-Refused.is))
 
-rule_refused : tie.Need-returns-3 invariant-loop decreases-loop
+rule_refused : tie.Need-returns-in-Refused-read_rule invariant-loop-at decreases-loop-at
 rule_refused c =
-    let n = c.before.before.before.before.before in
+    let n = c.before.before.before in
     let e = n.before.before in
-    let r = e.before.before.before.before.before.before in
-    let t = r.before.before.before in
-    let l = t.before.loop in
-    let asked = t.before.before.before.before.before.before.before.requires in
+    let r = e.before.before.before.before.before in
+    let t = r.before.before in
+    let l = t.loop-at in
+    let asked = t.requires in
     refuses _ _ _ _ _ _ refl
-    (rule_refuses _ _ _ (omega arith) _ _ l.last l.at l.base l.i l.invariant.4 t.loop-test.true r.r.given.0.0 (found r) asked.no_symbol_more asked.symbols_few _ (head e)
-    _ _ n.read_rule.ensures _ (ap answer_outcome c.before.x2.given.1))
+    (rule_refuses _ _ _ (omega arith) _ _ l.last l.at l.base l.i l.invariant.4 t.loop-at-test.true r.in-Found.r (found r) asked.no_symbol_more asked.symbols_few _ (head e)
+    _ _ n.read_rule.ensures _ (ap answer_outcome c.in-Refused-read_rule.is))
 
 -- the bounds that a turn leaves
-turn : (c : tie.After-slice-known4 invariant-loop decreases-loop)
-    → let e = c.before.before.before.before.before.before.before.before.before.before.before in
-    let r = e.before.before.before.before.before.before in
-    let l = r.before.before.before.before.loop in
-    (l.i < 64) × (l.at < 4224) × (r.r.given.0.0.b ≤ 32) × (r.r.given.0.0.c ≤ 32)
+turn : (c : tie.After-slice_known-in-Passed-read_rule-1 invariant-loop-at decreases-loop-at)
+    → let e = c.before.before.before.before.before.before.before.before.before in
+    let r = e.before.before.before.before.before in
+    let l = r.loop-at in
+    (l.i < 64) × (l.at < 4224) × (r.in-Found.r.b ≤ 32) × (r.in-Found.r.c ≤ 32)
 turn c =
-    let e = c.before.before.before.before.before.before.before.before.before.before.before in
-    let t = e.before.before.before.before.before.before.before.before.before in
+    let e = c.before.before.before.before.before.before.before.before.before in
+    let t = e.before.before.before.before.before.before in
     let f = told e in
-    let asked = t.before.before.before.before.before.before.before.requires in
-    (f.few, omega (arith, t.loop-test.true, asked.file), f.left_few, f.right_few)
+    let asked = t.requires in
+    (f.few, omega (arith, t.loop-at-test.true, asked.file), f.left_few, f.right_few)
 
-again : tie.Need-loop-preserved invariant-loop decreases-loop
+again : tie.Need-loop-at-preserved invariant-loop-at decreases-loop-at
 again c =
     let k = c.before.before in
     let w = k.before.before.before in
-    let n = w.before.before.before.before in
+    let n = w.before.before.before in
     let e = n.before.before in
-    let r = e.before.before.before.before.before.before in
-    let t = r.before.before.before in
-    let l = t.before.loop in
-    let asked = t.before.before.before.before.before.before.before.requires in
+    let r = e.before.before.before.before.before in
+    let t = r.before.before in
+    let l = t.loop-at in
+    let asked = t.requires in
     let f = told e in
     let i = l.invariant in (
       omega arith,
@@ -164,62 +164,62 @@ again c =
       rw k.keep_ends.ensures (simp length-set l.invariant.2),
       omega (arith, n.read_rule.auto),
       rw k.keep_ends.ensures
-          (more _ _ _ (omega arith) _ _ l.last l.at l.base l.i l.invariant.4 t.loop-test.true r.r.given.0.0 (found r) asked.no_symbol_more asked.symbols_few _ (head e)
-          _ _ n.read_rule.ensures _ (ap answer_outcome w.row.given.1) (omega arith)),
+          (more _ _ _ (omega arith) _ _ l.last l.at l.base l.i l.invariant.4 t.loop-at-test.true r.in-Found.r (found r) asked.no_symbol_more asked.symbols_few _ (head e)
+          _ _ n.read_rule.ensures _ (ap answer_outcome w.in-Passed-read_rule.is) (omega arith)),
     )
 
-pack_end : tie.Need-returns-4 invariant-loop decreases-loop
+pack_end : tie.Need-returns-then-may_follow invariant-loop-at decreases-loop-at
 pack_end c =
-    let l = c.before.before.before.loop in
-    passes _ _ _ (omega arith) _ _ l.last l.at l.base l.i l.invariant.4 c.before.before.loop-test.false c.before.may_follow.ensures c.if2.true
+    let l = c.loop-at in
+    passes _ _ _ (omega arith) _ _ l.last l.at l.base l.i l.invariant.4 c.loop-at-test.false c.may_follow.ensures c.if-may_follow.true
 
-early_end : tie.Need-returns-5 invariant-loop decreases-loop
+early_end : tie.Need-returns invariant-loop-at decreases-loop-at
 early_end c =
-    let l = c.before.before.before.loop in
+    let l = c.loop-at in
     refuses _ _ _ _ _ _ refl
-    (early _ _ _ (omega arith) _ _ l.last l.at l.base l.i l.invariant.4 c.before.before.loop-test.false c.before.may_follow.ensures c.if2.false)
+    (early _ _ _ (omega arith) _ _ l.last l.at l.base l.i l.invariant.4 c.loop-at-test.false c.may_follow.ensures c.if-may_follow.false)
 
 pub read_rules_spec : {M : Type 1} → statement M
 read_rules_spec =
     tie.close
     (tie.spec
-    invariant-loop
-    decreases-loop
+    invariant-loop-at
+    decreases-loop-at
     (λ c. omega arith)
     starts
     (λ c. omega arith)
-    (λ c κs. let row = between_row c.before.loop.invariant.4.place in omega arith)
-    (λ c. c.match.keys1)
-    (λ c. c.match.keys2)
+    (λ c κs. let row = between_row c.loop-at.invariant.4.place in omega arith)
+    (λ c. c.in-Found.in-Found-own.keys1)
+    (λ c. c.in_default.in_default-own.keys2)
     (λ c. omega arith)
     (λ c. omega arith)
     stray_record
     (λ c. omega arith)
     (λ c. omega arith)
     (λ c κs. search rules)
-    (λ c. c.match2.keys1)
+    (λ c. c.in-Refused.in-Refused-own.keys1)
     (λ c. omega arith)
     (λ c. omega arith)
     head_refused
-    (λ c. c.match2.keys2)
+    (λ c. c.in-Passed.in-Passed-own.keys2)
     (λ c. omega arith)
     (λ c κs. let f = told c.before in omega arith)
-    (λ c. c.match3.keys1)
-    (λ c. let n = c.before.before.before.before.before in omega (arith, same n.before.before))
-    (λ c. let n = c.before.before.before.before.before in omega (arith, n.read_rule.auto, same n.before.before))
+    (λ c. c.in-Refused-read_rule.in-Refused-read_rule-own.keys1)
+    (λ c. let n = c.before.before.before in omega (arith, same n.before.before))
+    (λ c. let n = c.before.before.before in omega (arith, n.read_rule.auto, same n.before.before))
     rule_refused
-    (λ c. c.match3.keys2)
-    (λ c. let f = told c.before.before.before.before.before.before.before in omega arith)
-    (λ c. let f = told c.before.before.before.before.before.before.before in omega arith)
-    (λ c. let f = told c.before.before.before.before.before.before.before.before in omega arith)
-    (λ c κs. let f = told c.before.before.before.before.before.before.before.before in record { room = omega arith; middle_small = omega arith; end_small = omega arith })
+    (λ c. c.in-Passed-read_rule.in-Passed-read_rule-own.keys2)
+    (λ c. let f = told c.before.before.before.before.before in omega arith)
+    (λ c. let f = told c.before.before.before.before.before in omega arith)
+    (λ c. let f = told c.before.before.before.before.before.before in omega arith)
+    (λ c κs. let f = told c.before.before.before.before.before.before in record { room = omega arith; middle_small = omega arith; end_small = omega arith })
     (λ c. let t = turn c in omega arith)
     (λ c. let t = turn c in omega arith)
     (λ c. let t = turn c in omega arith)
     (λ c. let t = turn c in omega arith)
     (λ c. let t = turn c in omega arith)
     again
-    (λ c κs. let row = between_row c.before.loop.invariant.4.place in omega arith)
+    (λ c κs. let row = between_row c.loop-at.invariant.4.place in omega arith)
     (λ c. omega arith)
     (λ c. omega arith)
     pack_end

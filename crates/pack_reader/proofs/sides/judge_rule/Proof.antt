@@ -37,60 +37,60 @@ module _ (ar ns : List ℕ) (left right end : ℕ) (l : balanced ar 1 (part ns l
       let first : get_or (part ns left right) 0 0 ≡ get_or ns left 0 = rw (part_more ns left right h k) in
       rw (l, r, first, lt-ltb _ _ e, all, seen_variables sn long (part ns left right) seen (part ns right end))
 
-returns : tie.Need-returns
-returns c = left_broken _ _ _ (sym c.before.before.left_side.ensures.told ∙ not-true _ c.if1.true)
+returns : tie.Need-returns-then-not-left_side
+returns c = left_broken _ _ _ (sym c.left_side.ensures.told ∙ not-true _ c.if-not-left_side.true)
 
-returns_2 : tie.Need-returns-2
+returns_2 : tie.Need-returns-then-not-r
 returns_2 c =
     let r = c.before.before in
     let l = r.before.before in
     right_broken _ _ _
-    (sym l.before.before.left_side.ensures.told ∙ not-false _ l.if1.false)
-    (sym r.right_side.ensures.told ∙ not-true _ c.if2.true)
+    (sym l.left_side.ensures.told ∙ not-false _ l.if-not-left_side.false)
+    (sym r.right_side-r.ensures.told ∙ not-true _ c.if-not-r.true)
 
-returns_3 : tie.Need-returns-3
+returns_3 : tie.Need-returns-then-nodes-left-ge-FIRST_VARIABLE
 returns_3 c =
     let e = c.before.before in
     let r = e.before.before in
     let l = r.before.before in
     bare_left _ _ _ _ _
-    (sym l.before.before.left_side.ensures.told ∙ not-false _ l.if1.false)
-    (sym r.right_side.ensures.told ∙ not-false _ e.if2.false)
+    (sym l.left_side.ensures.told ∙ not-false _ l.if-not-left_side.false)
+    (sym r.right_side-r.ensures.told ∙ not-false _ e.if-not-r.false)
     (omega arith)
     (omega arith)
-    c.if3.true
+    c.if-nodes-left-ge-FIRST_VARIABLE.true
 
 -- both sides are terms and the left is no variable: what was seen decides
-judged : (c : tie.Else3)
+judged : (c : tie.Else-nodes-left-ge-FIRST_VARIABLE)
     → let r = c.before.before.before.before in
-    let a = r.before.before.before.before.before.before.before.before.args in
-    cond r.right_side.result.closed (passed 0) (refused 6)
+    let a = r.args in
+    cond r.right_side-r.result.closed (passed 0) (refused 6)
     ≡ rule_judged a.arities.now (part a.nodes.now a.left a.right) (part a.nodes.now a.right a.end)
 judged c =
     let e = c.before.before in
     let r = e.before.before in
     let l = r.before.before in
-    let s = l.before.before.left_side in
-    let one = not-false _ l.if1.false in
-    let other = not-false _ e.if2.false in
-    let asked = l.before.before.before.before.before.before.requires in
+    let s = l.left_side in
+    let one = not-false _ l.if-not-left_side.false in
+    let other = not-false _ e.if-not-r.false in
+    let asked = l.requires in
     by_variables _ _ _ _ _
     (sym s.ensures.told ∙ one)
-    (sym r.right_side.ensures.told ∙ other)
+    (sym r.right_side-r.ensures.told ∙ other)
     asked.left_some
     (omega (arith, asked.ordered, asked.within))
-    c.if3.false
+    c.if-nodes-left-ge-FIRST_VARIABLE.false
     _
     _
-    (r.right_side.ensures.all_told other)
+    (r.right_side-r.ensures.all_told other)
     s.ensures.long
     (s.ensures.variables one)
 
-returns_4 : tie.Need-returns-4
-returns_4 c = rw c.if4.true at (judged c.before)
+returns_4 : tie.Need-returns-then-r
+returns_4 c = rw c.if-r.true at (judged c.before)
 
-returns_5 : tie.Need-returns-5
-returns_5 c = rw c.if4.false at (judged c.before)
+returns_5 : tie.Need-returns
+returns_5 c = rw c.if-r.false at (judged c.before)
 
 pub judge_rule_spec : {M : Type 1} → statement M
 judge_rule_spec =

@@ -18,11 +18,11 @@ use Rattle.pack_reader.proofs.sides.left_side.Tie as tie
 abbrev Flags : (ns : List ℕ) (from i : ℕ) → List Bool → Type 0
 Flags ns from i sn = (length sn ≡ 16) × SeenIn (part ns from i) sn
 
-abbrev invariant-loop : tie.invariant-loop
-invariant-loop arities nodes from to seen₀ wanted₀ i₀ seen wanted i = Wanting arities nodes from to wanted i × Flags nodes from i seen
+abbrev invariant-loop-i : tie.invariant-loop-i
+invariant-loop-i arities nodes from to seen₀ wanted₀ i₀ seen wanted i = Wanting arities nodes from to wanted i × Flags nodes from i seen
 
-abbrev decreases-loop : tie.decreases-loop
-decreases-loop arities nodes from to seen₀ wanted₀ i₀ seen wanted i = to - i
+abbrev decreases-loop-i : tie.decreases-loop-i
+decreases-loop-i arities nodes from to seen₀ wanted₀ i₀ seen wanted i = to - i
 
 -- one node passed
 module _ (ns : List ℕ) (from i : ℕ) (sn : List Bool) (h : from ≤ i) (k : i < length ns) (m : Flags ns from i sn) where
@@ -32,61 +32,61 @@ module _ (ns : List ℕ) (from i : ℕ) (sn : List Bool) (h : from ≤ i) (k : i
   at_other : ((v : ℕ) → v < 16 → get_or ns i 0 ≡ 64 + v → ⊥) → Flags ns from (i + 1) sn
   at_other other = (m.0, rw (part_last ns from i h k) (seen_same _ _ sn other m.1))
 
-first : tie.Need-loop-init invariant-loop decreases-loop
+first : tie.Need-loop-i-init invariant-loop-i decreases-loop-i
 first c = (
   (omega arith, omega arith, omega arith, refl),
   (rw c.requires.none_seen, rw (c.requires.none_seen, part_none _ c.args.from c.args.from (omega arith)) seen_none),
 )
 
-returns : tie.Need-returns invariant-loop decreases-loop
+returns : tie.Need-returns-then-wanted-eq0 invariant-loop-i decreases-loop-i
 returns c =
-    let l = c.before.before.loop in
+    let l = c.loop-i in
     record {
-      told = too_many _ _ _ _ _ _ l.invariant.0 c.before.loop-test.true (omega arith) c.if1.true;
+      told = too_many _ _ _ _ _ _ l.invariant.0 c.loop-i-test.true (omega arith) c.if-wanted-eq0.true;
       long = l.invariant.1.0;
       variables = λ e. absurd (false≢true e);
     }
 
-again : tie.Need-loop-preserved invariant-loop decreases-loop
+again : tie.Need-loop-i-preserved invariant-loop-i decreases-loop-i
 again c =
     let t = c.before.before.before.before in
-    let l = t.before.loop in
-    let n = t.before.before.args.nodes.now in
+    let l = t.loop-i in
+    let n = t.args.nodes.now in
     let inside : l.i < length n = omega arith in
-    let symbol = symbol_read _ _ _ _ _ _ l.invariant.0 t.loop-test.true (omega arith) c.before.before.before.if1.false in
-    let variable = variable_read _ _ _ _ _ _ l.invariant.0 t.loop-test.true (omega arith) c.before.before.before.if1.false in
+    let symbol = symbol_read _ _ _ _ _ _ l.invariant.0 t.loop-i-test.true (omega arith) c.if-wanted-eq0.false in
+    let variable = variable_read _ _ _ _ _ _ l.invariant.0 t.loop-i-test.true (omega arith) c.if-wanted-eq0.false in
     let same = at_other _ _ _ _ l.invariant.0.0 inside l.invariant.1 in
     ⊎_elim
     (λ w. rw (w.2, w.3) (symbol w.0.taken (omega (arith, w.1.given (get_or n l.i 0))), same (λ v h e. omega (arith, w))))
     (⊎_elim
     (λ w. rw (w.2, w.3) (variable w.0.left, at_variable _ _ _ _ l.invariant.0.0 inside l.invariant.1 w.0.left w.1.taken))
     (λ w. rw (w.2, w.3) (variable w.0.left, same (λ v h e. omega (arith, w)))))
-    c.before.if2.branch
+    c.if-c-lt-MOST_SYMBOLS.branch
 
-returns_2 : tie.Need-returns-2 invariant-loop decreases-loop
+returns_2 : tie.Need-returns invariant-loop-i decreases-loop-i
 returns_2 c =
-    let l = c.before.loop in
-    let z : l.i ≡ c.before.before.args.to = omega arith in
-    record { told = all_read _ _ _ _ _ _ l.invariant.0 c.loop-test.false; long = l.invariant.1.0; variables = λ e. rw z at l.invariant.1.1 }
+    let l = c.loop-i in
+    let z : l.i ≡ c.args.to = omega arith in
+    record { told = all_read _ _ _ _ _ _ l.invariant.0 c.loop-i-test.false; long = l.invariant.1.0; variables = λ e. rw z at l.invariant.1.1 }
 
 pub left_side_spec : {M : Type 1} → statement M
 left_side_spec =
     tie.close
     (tie.spec
-    invariant-loop
-    decreases-loop
+    invariant-loop-i
+    decreases-loop-i
     first
-    (λ c. omega (arith, ap length c.before.before.before.requires.none_seen))
+    (λ c. omega (arith, ap length c.requires.none_seen))
     returns
     (λ c. omega arith)
-    (λ c. omega (arith, c.shared_slice_known.given c.before.before.before.loop.i))
+    (λ c. omega (arith, c.shared_slice_known-1.given c.loop-i.i))
     (λ c. omega arith)
-    (λ c. let l = c.before.before.before.before.before in omega (arith, c.shared_slice_known2.given (get_or l.before.args.nodes.now l.loop.i 0)))
-    (λ c. let l = c.before.before.before.before.before in omega (arith, c.shared_slice_known2.given (get_or l.before.args.nodes.now l.loop.i 0)))
+    (λ c. let l = c.before.before.before.before.before in omega (arith, c.shared_slice_known-then-c-lt-MOST_SYMBOLS-1.given (get_or l.args.nodes.now l.loop-i.i 0)))
+    (λ c. let l = c.before.before.before.before.before in omega (arith, c.shared_slice_known-then-c-lt-MOST_SYMBOLS-1.given (get_or l.args.nodes.now l.loop-i.i 0)))
     (λ c. omega arith)
-    (λ c. ⊎_elim (λ w. omega arith) (⊎_elim (λ w. omega arith) (λ w. omega arith)) c.before.if2.branch)
+    (λ c. ⊎_elim (λ w. omega arith) (⊎_elim (λ w. omega arith) (λ w. omega arith)) c.if-c-lt-MOST_SYMBOLS.branch)
     (λ c. omega arith)
     (λ c. omega arith)
     again
-    (λ c. omega (arith, ap length c.before.before.requires.none_seen))
+    (λ c. omega (arith, ap length c.requires.none_seen))
     returns_2)

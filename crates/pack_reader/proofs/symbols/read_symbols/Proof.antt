@@ -62,12 +62,12 @@ module _ (pack : List ℕ) (last i : ℕ) (k : i < length pack / 8) where
 abbrev GoesOn : (pack arities : List ℕ) (last i : ℕ) → Type 0
 GoesOn pack arities last i = after (steps_left pack last i) (with_arities (take i arities)) ≡ symbol_steps 0 0 (all_records pack)
 
-abbrev invariant-loop : tie.invariant-loop
-invariant-loop pack arities₀ n last₀ i₀ arities last i =
+abbrev invariant-loop-i : tie.invariant-loop-i
+invariant-loop-i pack arities₀ n last₀ i₀ arities last i =
     (i ≤ length pack / 8) × (i ≤ 64) × (last < rows) × (length arities ≡ 64) × GoesOn pack arities last i
 
-abbrev decreases-loop : tie.decreases-loop
-decreases-loop pack arities₀ n last₀ i₀ arities last i = length pack / 8 - i
+abbrev decreases-loop-i : tie.decreases-loop-i
+decreases-loop-i pack arities₀ n last₀ i₀ arities last i = length pack / 8 - i
 
 module _ (pack arities : List ℕ) (last i : ℕ) (s : GoesOn pack arities last i) where
   -- a refusal met here is the answer
@@ -88,86 +88,86 @@ module _ (pack arities : List ℕ) (last i : ℕ) (s : GoesOn pack arities last 
 -- THE NEEDS
 
 -- what the record reader answered
-strayed : (c : tie.After-enum-told invariant-loop decreases-loop)
-    → let l = c.before.before.before.before.loop in
-    wanted_at c.before.before.before.before.before.before.before.args.pack.now (8 * l.i) l.last 0 false ≡ Stray
-strayed c = sym c.before.before.read_wanted.ensures ∙ c.enum_told.given.1
+strayed : (c : tie.In_default invariant-loop-i decreases-loop-i)
+    → let l = c.loop-i in
+    wanted_at c.args.pack.now (8 * l.i) l.last 0 false ≡ Stray
+strayed c = sym c.read_wanted.ensures ∙ c.in_default.is
 
-found : (c : tie.After-known-told invariant-loop decreases-loop)
-    → let l = c.before.before.before.before.before.loop in
-    wanted_at c.before.before.before.before.before.before.before.before.args.pack.now (8 * l.i) l.last 0 false ≡ Found c.before.r.given.0.0
-found c = sym c.before.before.before.read_wanted.ensures ∙ c.before.r.given.1
+found : (c : tie.In-Found invariant-loop-i decreases-loop-i)
+    → let l = c.loop-i in
+    wanted_at c.args.pack.now (8 * l.i) l.last 0 false ≡ Found c.in-Found.r
+found c = sym c.read_wanted.ensures ∙ c.in-Found.is
 
 -- and the arity that the record gave
-arity : (c : tie.After-known-told3 invariant-loop decreases-loop)
-    → let w = c.before.before.before.before.before.before in
-    passed c.before.b.given.0.0 ≡ arity_outcome w.before.before.before.before.before.loop.i w.before.r.given.0.0
-arity c = sym (ap answer_outcome c.before.b.given.1) ∙ c.before.before.before.arity_of.ensures
+arity : (c : tie.In-Passed invariant-loop-i decreases-loop-i)
+    → let w = c.before.before.before.before in
+    passed c.in-Passed.b ≡ arity_outcome w.loop-i.i w.in-Found.r
+arity c = sym (ap answer_outcome c.in-Passed.is) ∙ c.arity_of.ensures
 
-small : (c : tie.After-known-told3 invariant-loop decreases-loop)
-    → (c.before.before.before.before.before.before.before.before.before.before.before.loop.i < most_symbols) × (c.before.b.given.0.0 ≤ most_arity)
+small : (c : tie.In-Passed invariant-loop-i decreases-loop-i)
+    → (c.loop-i.i < most_symbols) × (c.in-Passed.b ≤ most_arity)
 small c = arity_small _ _ _ (sym (arity c))
 
-stray_record : tie.Need-returns invariant-loop decreases-loop
+stray_record : tie.Need-returns-in_default invariant-loop-i decreases-loop-i
 stray_record c =
-    let t = c.before.before.before in
-    let l = t.before.loop in
-    refuses _ _ l.last l.i l.invariant.4 _ refl (stray _ l.last l.i t.loop-test.true (strayed c))
+    let t = c.before.before in
+    let l = t.loop-i in
+    refuses _ _ l.last l.i l.invariant.4 _ refl (stray _ l.last l.i t.loop-i-test.true (strayed c))
 
-first_rule : tie.Need-returns-2 invariant-loop decreases-loop
+first_rule : tie.Need-returns-then-r-ne83 invariant-loop-i decreases-loop-i
 first_rule c =
     let w = c.before.before in
-    let t = w.before.before.before.before in
-    let l = t.before.loop in
-    ends _ _ l.last l.i l.invariant.4 (omega arith) (no_symbol _ l.last l.i t.loop-test.true (found w) c.if1.true)
+    let t = w.before.before in
+    let l = t.loop-i in
+    ends _ _ l.last l.i l.invariant.4 (omega arith) (no_symbol _ l.last l.i t.loop-i-test.true (found w) c.if-r-ne83.true)
 
-bad_arity : tie.Need-returns-3 invariant-loop decreases-loop
+bad_arity : tie.Need-returns-in-Refused invariant-loop-i decreases-loop-i
 bad_arity c =
-    let f = c.before.before.before.before in
+    let f = c.before.before in
     let w = f.before.before in
-    let t = w.before.before.before.before in
-    let l = t.before.loop in
+    let t = w.before.before in
+    let l = t.loop-i in
     refuses _ _ l.last l.i l.invariant.4 _ refl
-    (arity_refused _ l.last l.i t.loop-test.true (found w) f.if1.false
-    (sym (ap answer_outcome c.before.x.given.1) ∙ c.before.before.before.arity_of.ensures))
+    (arity_refused _ l.last l.i t.loop-i-test.true (found w) f.if-r-ne83.false
+    (sym (ap answer_outcome c.in-Refused.is) ∙ c.arity_of.ensures))
 
-again : tie.Need-loop-preserved invariant-loop decreases-loop
+again : tie.Need-loop-i-preserved invariant-loop-i decreases-loop-i
 again c =
-    let f = c.before.before.before.before in
+    let f = c.before.before in
     let w = f.before.before in
-    let t = w.before.before.before.before in
-    let l = t.before.loop in
+    let t = w.before.before in
+    let l = t.loop-i in
     let s = small c in (
       omega arith,
       omega arith,
       omega arith,
       simp length-set (omega arith),
-      more _ _ l.last l.i l.invariant.4 _ (omega arith) (arity_read _ l.last l.i t.loop-test.true (found w) f.if1.false (arity c)),
+      more _ _ l.last l.i l.invariant.4 _ (omega arith) (arity_read _ l.last l.i t.loop-i-test.true (found w) f.if-r-ne83.false (arity c)),
     )
 
-file_end : tie.Need-returns-4 invariant-loop decreases-loop
-file_end c = let l = c.before.loop in ends _ _ l.last l.i l.invariant.4 (omega arith) (none_stands _ l.last l.i c.loop-test.false)
+file_end : tie.Need-returns invariant-loop-i decreases-loop-i
+file_end c = let l = c.loop-i in ends _ _ l.last l.i l.invariant.4 (omega arith) (none_stands _ l.last l.i c.loop-i-test.false)
 
 pub read_symbols_spec : {M : Type 1} → statement M
 read_symbols_spec =
     tie.close
     (tie.spec
-    invariant-loop
-    decreases-loop
-    (λ c. (omega arith, omega arith, omega arith, omega arith, arities_none (symbol_steps 0 0 (all_records c.before.before.args.pack.now))))
+    invariant-loop-i
+    decreases-loop-i
+    (λ c. (omega arith, omega arith, omega arith, omega arith, arities_none (symbol_steps 0 0 (all_records c.args.pack.now))))
     (λ c. omega arith)
     (λ c κs. omega arith)
-    (λ c. c.match.keys1)
-    (λ c. c.match.keys2)
+    (λ c. c.in-Found.in-Found-own.keys1)
+    (λ c. c.in_default.in_default-own.keys2)
     (λ c. omega arith)
     stray_record
     (λ c. omega arith)
     first_rule
     (λ c κs. search rules)
-    (λ c. c.match2.keys1)
+    (λ c. c.in-Refused.in-Refused-own.keys1)
     (λ c. omega arith)
     bad_arity
-    (λ c. c.match2.keys2)
+    (λ c. c.in-Passed.in-Passed-own.keys2)
     (λ c. let s = small c in omega arith)
     (λ c. let s = small c in omega arith)
     (λ c. omega arith)
