@@ -12,8 +12,7 @@ use Rattle.terms.specs.Kept.{part, balanced}
 use Rattle.terms.proofs.Parts.{part_more}
 use Rattle.pack_reader.specs.Stored.{rule_judged, all_seen, SeenIn}
 use Rattle.pack_reader.proofs.Seen.{seen_variables}
-use Rattle.pack_reader.proofs.sides.judge_rule.Statement.{statement}
-use Rattle.pack_reader.proofs.sides.judge_rule.Tie as tie
+use Rattle.pack_reader.proofs.sides.judge_rule.Goals as goal
 
 -- the judgement of two sides, by each test
 module _ (ar ls rs : List ℕ) where
@@ -37,72 +36,62 @@ module _ (ar ns : List ℕ) (left right end : ℕ) (l : balanced ar 1 (part ns l
       let first : get_or (part ns left right) 0 0 ≡ get_or ns left 0 = rw (part_more ns left right h k) in
       rw (l, r, first, lt-ltb _ _ e, all, seen_variables sn long (part ns left right) seen (part ns right end))
 
-returns : tie.Need-returns-then-not-left_side
-returns c = left_broken _ _ _ (sym c.left_side.ensures.told ∙ not-true _ c.if-not-left_side.true)
+pub returns-then-not-left_side : goal.returns-then-not-left_side
+returns-then-not-left_side c = left_broken _ _ _ (sym c.left_side.ensures.told ∙ c.if-not-left_side.true)
 
-returns_2 : tie.Need-returns-then-not-r
-returns_2 c =
-    let r = c.before.before in
-    let l = r.before.before in
+pub returns-then-not-r : goal.returns-then-not-r
+returns-then-not-r c =
     right_broken _ _ _
-    (sym l.left_side.ensures.told ∙ not-false _ l.if-not-left_side.false)
-    (sym r.right_side-r.ensures.told ∙ not-true _ c.if-not-r.true)
+    (sym c.left_side.ensures.told ∙ c.if-not-left_side.false)
+    (sym c.right_side-r.ensures.told ∙ not-true _ c.if-not-r.true)
 
-returns_3 : tie.Need-returns-then-nodes-left-ge-FIRST_VARIABLE
-returns_3 c =
-    let e = c.before.before in
-    let r = e.before.before in
-    let l = r.before.before in
+pub returns-then-nodes-left-ge-FIRST_VARIABLE : goal.returns-then-nodes-left-ge-FIRST_VARIABLE
+returns-then-nodes-left-ge-FIRST_VARIABLE c =
     bare_left _ _ _ _ _
-    (sym l.left_side.ensures.told ∙ not-false _ l.if-not-left_side.false)
-    (sym r.right_side-r.ensures.told ∙ not-false _ e.if-not-r.false)
+    (sym c.left_side.ensures.told ∙ c.if-not-left_side.false)
+    (sym c.right_side-r.ensures.told ∙ not-false _ c.if-not-r.false)
     (omega arith)
     (omega arith)
     c.if-nodes-left-ge-FIRST_VARIABLE.true
 
--- both sides are terms and the left is no variable: what was seen decides
-judged : (c : tie.Else-nodes-left-ge-FIRST_VARIABLE)
-    → let r = c.before.before.before.before in
-    let a = r.args in
-    cond r.right_side-r.result.closed (passed 0) (refused 6)
-    ≡ rule_judged a.arities.now (part a.nodes.now a.left a.right) (part a.nodes.now a.right a.end)
-judged c =
-    let e = c.before.before in
-    let r = e.before.before in
-    let l = r.before.before in
-    let s = l.left_side in
-    let one = not-false _ l.if-not-left_side.false in
-    let other = not-false _ e.if-not-r.false in
-    let asked = l.requires in
+pub returns-then-r : goal.returns-then-r
+returns-then-r c =
+    let judged : let a = c.args in
+    cond c.right_side-r.result.closed (passed 0) (refused 6)
+    ≡ rule_judged a.arities.now (part a.nodes.now a.left a.right) (part a.nodes.now a.right a.end) = let s = c.left_side in
+    let one = c.if-not-left_side.false in
+    let other = not-false _ c.if-not-r.false in
+    let asked = c.requires in
     by_variables _ _ _ _ _
     (sym s.ensures.told ∙ one)
-    (sym r.right_side-r.ensures.told ∙ other)
+    (sym c.right_side-r.ensures.told ∙ other)
     asked.left_some
     (omega (arith, asked.ordered, asked.within))
     c.if-nodes-left-ge-FIRST_VARIABLE.false
     _
     _
-    (r.right_side-r.ensures.all_told other)
+    (c.right_side-r.ensures.all_told other)
     s.ensures.long
-    (s.ensures.variables one)
+    (s.ensures.variables one) in
+    rw c.if-r.true at judged
 
-returns_4 : tie.Need-returns-then-r
-returns_4 c = rw c.if-r.true at (judged c.before)
-
-returns_5 : tie.Need-returns
-returns_5 c = rw c.if-r.false at (judged c.before)
-
-pub judge_rule_spec : {M : Type 1} → statement M
-judge_rule_spec =
-    tie.close
-    (tie.spec
-    (λ c. search rules)
-    (λ c κs. search rules)
-    returns
-    (λ c. search rules)
-    (λ c κs. search rules)
-    returns_2
-    (λ c. search rules)
-    returns_3
-    returns_4
-    returns_5)
+pub returns : goal.returns
+returns c =
+    let judged : let a = c.args in
+    cond c.right_side-r.result.closed (passed 0) (refused 6)
+    ≡ rule_judged a.arities.now (part a.nodes.now a.left a.right) (part a.nodes.now a.right a.end) = let s = c.left_side in
+    let one = c.if-not-left_side.false in
+    let other = not-false _ c.if-not-r.false in
+    let asked = c.requires in
+    by_variables _ _ _ _ _
+    (sym s.ensures.told ∙ one)
+    (sym c.right_side-r.ensures.told ∙ other)
+    asked.left_some
+    (omega (arith, asked.ordered, asked.within))
+    c.if-nodes-left-ge-FIRST_VARIABLE.false
+    _
+    _
+    (c.right_side-r.ensures.all_told other)
+    s.ensures.long
+    (s.ensures.variables one) in
+    rw c.if-r.false at judged

@@ -28,12 +28,8 @@ use Rattle.packs.proofs.Places.{Inside, at_rule, inside_row, inside_next}
 use Rattle.pack_reader.specs.Stored.{Run, node_outcome, coded, more_run, node_steps, SameBefore, NodesRead}
 use Rattle.pack_reader.proofs.Wanted.{found_at, stray_at}
 use Rattle.pack_reader.proofs.NodeSteps.{Small, outcome_small, code_small, code_row, outcome_row, coded_passed, coded_refused, codes_append, steps_stray, steps_refused, steps_read, steps_end, with_nodes, with_none, with_more}
-use Rattle.pack_reader.proofs.nodes.read_nodes.Statement.{statement}
-use Rattle.pack_reader.proofs.nodes.read_nodes.Tie as tie
-
--- what the records from the j-th on come to
-abbrev steps_left : (pack : List ℕ) (from count symbols last j : ℕ) → Outcome Run
-steps_left pack from count symbols last j = node_steps symbols last (count - j) (drop (from + j) (all_records pack))
+use Rattle.pack_reader.proofs.nodes.read_nodes.Invariants.{SoFar, steps_left}
+use Rattle.pack_reader.proofs.nodes.read_nodes.Goals as goal
 
 -- the j-th record is a node: its byte, the row of its kind, and the steps after it
 record NodeRead (pack : List ℕ) (from count symbols last j next byte : ℕ) : Type 0 where
@@ -82,22 +78,6 @@ module _ (pack : List ℕ) (from count symbols last j : ℕ) (h : j < count) whe
                 rw (row, there, stands.1, d) (steps_read symbols last r _ (count - (j + 1)) x.0 (rw d at stands.0) x.1);
           }
 
--- THE INVARIANT
-
-record SoFar (pack : List ℕ) (from count symbols base : ℕ) (before now : List ℕ) (last j : ℕ) : Type 0 where
-  read : List Node
-  many : length read ≡ j
-  goes_on : after (steps_left pack from count symbols last j) (with_nodes read) ≡ node_steps symbols 2 count (drop from (all_records pack))
-  untouched : SameBefore base before now
-  kept : take j (drop base now) ≡ codes read
-
-abbrev invariant-loop-j : tie.invariant-loop-j
-invariant-loop-j pack from count symbols nodes₀ base n last₀ j₀ nodes last j =
-    (j ≤ count) × Inside last × SoFar pack from count symbols base nodes₀ nodes last j
-
-abbrev decreases-loop-j : tie.decreases-loop-j
-decreases-loop-j pack from count symbols nodes₀ base n last₀ j₀ nodes last j = count - j
-
 module _ (pack : List ℕ) (from count symbols base : ℕ) (before : List ℕ) where
   start : SoFar pack from count symbols base before before 2 0
   unfolding codes
@@ -139,96 +119,78 @@ module _ (pack : List ℕ) (from count symbols base : ℕ) (before : List ℕ) w
           kept = rw (drop-set-add base now j b, add-one j, take-suc-set (drop base now) j b l, codes_append s.read, s.kept, n.byte_is);
         }
 
--- THE NEEDS
+pub loop-j-init : goal.loop-j-init
+loop-j-init c = (omega arith, at_rule, start _ _ _ _ _ _)
 
--- what the record reader answered
-strayed : (c : tie.In_default invariant-loop-j decreases-loop-j)
-    → let l = c.loop-j in
-    let a = c.args in
-    wanted_at a.pack.now (8 * (a.from + l.j)) l.last (a.count - l.j) false ≡ Stray
-strayed c = sym c.read_wanted.ensures ∙ c.in_default.is
-
-found : (c : tie.In-Found invariant-loop-j decreases-loop-j)
-    → let l = c.loop-j in
-    let a = c.args in
-    wanted_at a.pack.now (8 * (a.from + l.j)) l.last (a.count - l.j) false ≡ Found c.in-Found.r
-found c = sym c.read_wanted.ensures ∙ c.in-Found.is
-
--- and the node that was read
-read : (c : tie.In-Passed invariant-loop-j decreases-loop-j)
-    → let w = c.before.before in
-    let l = w.loop-j in
-    let a = w.args in
-    let b = c.in-Passed.code in
-    NodeRead a.pack.now a.from a.count a.symbols l.last l.j (3 + b / 64) b
-read c =
-    let w = c.before.before in
-    let t = w.before.before in
-    let l = t.loop-j in
-    node_read _ _ _ _ l.last l.j t.loop-j-test.true t.if-n-from.false (found w) l.invariant.1 (omega arith)
-    (sym (ap answer_outcome c.in-Passed.is) ∙ c.node_code.ensures)
-
-file_end : tie.Need-returns-then-n-from invariant-loop-j decreases-loop-j
-file_end c =
+pub returns-then-n-from : goal.returns-then-n-from
+returns-then-n-from c =
     let l = c.loop-j in
     refuses _ _ _ _ _ _ _ l.last l.j l.invariant.2 _ refl (none_stands _ _ _ _ l.last l.j c.loop-j-test.true c.if-n-from.true)
 
-stray_record : tie.Need-returns-in_default invariant-loop-j decreases-loop-j
-stray_record c =
-    let t = c.before.before in
-    let l = t.loop-j in
-    refuses _ _ _ _ _ _ _ l.last l.j l.invariant.2 _ refl (stray _ _ _ _ l.last l.j t.loop-j-test.true t.if-n-from.false (strayed c))
+pub read_wanted-requires : goal.read_wanted-requires
+read_wanted-requires c = omega (arith, inside_row c.loop-j.invariant.1)
 
-bad_node : tie.Need-returns-in-Refused invariant-loop-j decreases-loop-j
-bad_node c =
-    let w = c.before.before in
-    let t = w.before.before in
-    let l = t.loop-j in
+pub returns-in_default : goal.returns-in_default
+returns-in_default c =
+    let strayed : let l = c.loop-j in
+    let a = c.args in
+    wanted_at a.pack.now (8 * (a.from + l.j)) l.last (a.count - l.j) false ≡ Stray = sym c.read_wanted.ensures ∙ c.in_default.is in
+    let l = c.loop-j in
+    refuses _ _ _ _ _ _ _ l.last l.j l.invariant.2 _ refl (stray _ _ _ _ l.last l.j c.loop-j-test.true c.if-n-from.false strayed)
+
+pub returns-in-Refused : goal.returns-in-Refused
+returns-in-Refused c =
+    let found : let l = c.loop-j in
+    let a = c.args in
+    wanted_at a.pack.now (8 * (a.from + l.j)) l.last (a.count - l.j) false ≡ Found c.in-Found.r = sym c.read_wanted.ensures ∙ c.in-Found.is in
+    let l = c.loop-j in
     refuses _ _ _ _ _ _ _ l.last l.j l.invariant.2 _ refl
-    (node_refused _ _ _ _ l.last l.j t.loop-j-test.true t.if-n-from.false (found w)
+    (node_refused _ _ _ _ l.last l.j c.loop-j-test.true c.if-n-from.false found
     (sym (ap answer_outcome c.in-Refused.is) ∙ c.node_code.ensures))
 
-again : tie.Need-loop-j-preserved invariant-loop-j decreases-loop-j
-again c =
+pub overflow_cast-nodes : goal.overflow_cast-nodes
+overflow_cast-nodes c =
+    let found : let l = c.loop-j in
+    let a = c.args in
+    wanted_at a.pack.now (8 * (a.from + l.j)) l.last (a.count - l.j) false ≡ Found c.in-Found.r = sym c.read_wanted.ensures ∙ c.in-Found.is in
+    let read : let l = c.loop-j in
+    let a = c.args in
+    let b = c.in-Passed.code in
+    NodeRead a.pack.now a.from a.count a.symbols l.last l.j (3 + b / 64) b = let l = c.loop-j in
+    node_read _ _ _ _ l.last l.j c.loop-j-test.true c.if-n-from.false found l.invariant.1 (omega arith)
+    (sym (ap answer_outcome c.in-Passed.is) ∙ c.node_code.ensures) in
+    let n = read in omega (arith, n.byte_is, code_small _ n.node (omega arith) n.small)
+
+pub overflow_add-last : goal.overflow_add-last
+overflow_add-last c =
+    let found : let l = c.loop-j in
+    let a = c.args in
+    wanted_at a.pack.now (8 * (a.from + l.j)) l.last (a.count - l.j) false ≡ Found c.in-Found.r = sym c.read_wanted.ensures ∙ c.in-Found.is in
+    let read : let l = c.loop-j in
+    let a = c.args in
+    let b = c.in-Passed.code in
+    NodeRead a.pack.now a.from a.count a.symbols l.last l.j (3 + b / 64) b = let l = c.loop-j in
+    node_read _ _ _ _ l.last l.j c.loop-j-test.true c.if-n-from.false found l.invariant.1 (omega arith)
+    (sym (ap answer_outcome c.in-Passed.is) ∙ c.node_code.ensures) in
+    let n = read in omega (arith, n.byte_is, code_small _ n.node (omega arith) n.small)
+
+pub loop-j-preserved : goal.loop-j-preserved
+loop-j-preserved c =
+    let found : let l = c.loop-j in
+    let a = c.args in
+    wanted_at a.pack.now (8 * (a.from + l.j)) l.last (a.count - l.j) false ≡ Found c.in-Found.r = sym c.read_wanted.ensures ∙ c.in-Found.is in
+    let read : let l = c.loop-j in
+    let a = c.args in
+    let b = c.in-Passed.code in
+    NodeRead a.pack.now a.from a.count a.symbols l.last l.j (3 + b / 64) b = let l = c.loop-j in
+    node_read _ _ _ _ l.last l.j c.loop-j-test.true c.if-n-from.false found l.invariant.1 (omega arith)
+    (sym (ap answer_outcome c.in-Passed.is) ∙ c.node_code.ensures) in
     let l = c.loop-j in
-    let n = read c in
+    let n = read in
     let step = more _ _ _ _ _ _ l.nodes l.last l.j l.invariant.2 n (omega arith) in
     (omega arith, n.inside, step)
 
-all_read : tie.Need-returns invariant-loop-j decreases-loop-j
-all_read c =
+pub returns : goal.returns
+returns c =
     let l = c.loop-j in
     ends _ _ _ _ _ _ l.nodes l.last l.j l.invariant.2 l.invariant.0 c.loop-j-test.false (omega arith)
-
-pub read_nodes_spec : {M : Type 1} → statement M
-read_nodes_spec =
-    tie.close
-    (tie.spec
-    invariant-loop-j
-    decreases-loop-j
-    (λ c. (omega arith, at_rule, start _ _ _ _ _ _))
-    (λ c. omega arith)
-    (λ c. omega arith)
-    file_end
-    (λ c. omega arith)
-    (λ c. omega arith)
-    (λ c. omega arith)
-    (λ c κs. omega (arith, inside_row c.loop-j.invariant.1))
-    (λ c. c.in-Found.in-Found-own.keys1)
-    (λ c. c.in_default.in_default-own.keys2)
-    (λ c. omega arith)
-    stray_record
-    (λ c κs. search rules)
-    (λ c. c.in-Refused.in-Refused-own.keys1)
-    (λ c. omega arith)
-    bad_node
-    (λ c. c.in-Passed.in-Passed-own.keys2)
-    (λ c. let n = read c in omega (arith, n.byte_is, code_small _ n.node (omega arith) n.small))
-    (λ c. omega arith)
-    (λ c. omega arith)
-    (λ c. let n = read c in omega (arith, n.byte_is, code_small _ n.node (omega arith) n.small))
-    (λ c. omega arith)
-    (λ c. omega arith)
-    again
-    (λ c. omega arith)
-    all_read)

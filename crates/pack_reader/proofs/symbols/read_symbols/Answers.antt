@@ -23,12 +23,8 @@ use Rattle.packs.specs.PackReading.{most_symbols, most_arity}
 use Rattle.pack_reader.specs.Stored.{arity_outcome, symbol_steps, SymbolsRead}
 use Rattle.pack_reader.proofs.Wanted.{found_at, stray_at}
 use Rattle.pack_reader.proofs.SymbolSteps.{arity_small, symbols_stray, symbols_end, symbols_read, with_arities, arities_none, arities_more}
-use Rattle.pack_reader.proofs.symbols.read_symbols.Statement.{statement}
-use Rattle.pack_reader.proofs.symbols.read_symbols.Tie as tie
-
--- what the records from the i-th on come to
-abbrev steps_left : (pack : List ℕ) (last i : ℕ) → Outcome (List ℕ)
-steps_left pack last i = symbol_steps last i (drop i (all_records pack))
+use Rattle.pack_reader.proofs.symbols.read_symbols.Invariants.{GoesOn, steps_left}
+use Rattle.pack_reader.proofs.symbols.read_symbols.Goals as goal
 
 -- ONE TURN, by what stands at the i-th record
 
@@ -57,18 +53,6 @@ module _ (pack : List ℕ) (last i : ℕ) (k : i < length pack / 8) where
       arity_read : {b : ℕ} → passed b ≡ arity_outcome i r → steps_left pack last i ≡ after (steps_left pack 1 (i + 1)) (λ ar. passed (b ∷ ar))
       arity_read e = rw there (symbols_read last i r _ follows s ∙ rw (← e, add-one i))
 
--- THE INVARIANT
-
-abbrev GoesOn : (pack arities : List ℕ) (last i : ℕ) → Type 0
-GoesOn pack arities last i = after (steps_left pack last i) (with_arities (take i arities)) ≡ symbol_steps 0 0 (all_records pack)
-
-abbrev invariant-loop-i : tie.invariant-loop-i
-invariant-loop-i pack arities₀ n last₀ i₀ arities last i =
-    (i ≤ length pack / 8) × (i ≤ 64) × (last < rows) × (length arities ≡ 64) × GoesOn pack arities last i
-
-abbrev decreases-loop-i : tie.decreases-loop-i
-decreases-loop-i pack arities₀ n last₀ i₀ arities last i = length pack / 8 - i
-
 module _ (pack arities : List ℕ) (last i : ℕ) (s : GoesOn pack arities last i) where
   -- a refusal met here is the answer
   refuses : {m : ℕ} (x : Answer) → answer_outcome x ≡ refused m → steps_left pack last i ≡ refused m
@@ -85,93 +69,60 @@ module _ (pack arities : List ℕ) (last i : ℕ) (s : GoesOn pack arities last 
       let kept : take (i + 1) (set arities i b) ≡ take i arities ++ (b ∷ []) = rw (add-one i) (take-suc-set arities i b h) in
       rw kept (sym (arities_more (take i arities) b (steps_left pack 1 (i + 1))) ∙ ap (λ (o : Outcome (List ℕ)). after o (with_arities (take i arities))) (sym e) ∙ s)
 
--- THE NEEDS
+pub loop-i-init : goal.loop-i-init
+loop-i-init c =
+    (omega arith, omega arith, omega arith, omega arith, arities_none (symbol_steps 0 0 (all_records c.args.pack.now)))
 
--- what the record reader answered
-strayed : (c : tie.In_default invariant-loop-i decreases-loop-i)
-    → let l = c.loop-i in
-    wanted_at c.args.pack.now (8 * l.i) l.last 0 false ≡ Stray
-strayed c = sym c.read_wanted.ensures ∙ c.in_default.is
+pub returns-in_default : goal.returns-in_default
+returns-in_default c =
+    let strayed : let l = c.loop-i in
+    wanted_at c.args.pack.now (8 * l.i) l.last 0 false ≡ Stray = sym c.read_wanted.ensures ∙ c.in_default.is in
+    let l = c.loop-i in
+    refuses _ _ l.last l.i l.invariant.4 _ refl (stray _ l.last l.i c.loop-i-test.true strayed)
 
-found : (c : tie.In-Found invariant-loop-i decreases-loop-i)
-    → let l = c.loop-i in
-    wanted_at c.args.pack.now (8 * l.i) l.last 0 false ≡ Found c.in-Found.r
-found c = sym c.read_wanted.ensures ∙ c.in-Found.is
+pub returns-then-r-ne83 : goal.returns-then-r-ne83
+returns-then-r-ne83 c =
+    let found : let l = c.loop-i in
+    wanted_at c.args.pack.now (8 * l.i) l.last 0 false ≡ Found c.in-Found.r = sym c.read_wanted.ensures ∙ c.in-Found.is in
+    let l = c.loop-i in
+    ends _ _ l.last l.i l.invariant.4 (omega arith) (no_symbol _ l.last l.i c.loop-i-test.true found c.if-r-ne83.true)
 
--- and the arity that the record gave
-arity : (c : tie.In-Passed invariant-loop-i decreases-loop-i)
-    → let w = c.before.before.before.before in
-    passed c.in-Passed.b ≡ arity_outcome w.loop-i.i w.in-Found.r
-arity c = sym (ap answer_outcome c.in-Passed.is) ∙ c.arity_of.ensures
-
-small : (c : tie.In-Passed invariant-loop-i decreases-loop-i)
-    → (c.loop-i.i < most_symbols) × (c.in-Passed.b ≤ most_arity)
-small c = arity_small _ _ _ (sym (arity c))
-
-stray_record : tie.Need-returns-in_default invariant-loop-i decreases-loop-i
-stray_record c =
-    let t = c.before.before in
-    let l = t.loop-i in
-    refuses _ _ l.last l.i l.invariant.4 _ refl (stray _ l.last l.i t.loop-i-test.true (strayed c))
-
-first_rule : tie.Need-returns-then-r-ne83 invariant-loop-i decreases-loop-i
-first_rule c =
-    let w = c.before.before in
-    let t = w.before.before in
-    let l = t.loop-i in
-    ends _ _ l.last l.i l.invariant.4 (omega arith) (no_symbol _ l.last l.i t.loop-i-test.true (found w) c.if-r-ne83.true)
-
-bad_arity : tie.Need-returns-in-Refused invariant-loop-i decreases-loop-i
-bad_arity c =
-    let f = c.before.before in
-    let w = f.before.before in
-    let t = w.before.before in
-    let l = t.loop-i in
+pub returns-in-Refused : goal.returns-in-Refused
+returns-in-Refused c =
+    let found : let l = c.loop-i in
+    wanted_at c.args.pack.now (8 * l.i) l.last 0 false ≡ Found c.in-Found.r = sym c.read_wanted.ensures ∙ c.in-Found.is in
+    let l = c.loop-i in
     refuses _ _ l.last l.i l.invariant.4 _ refl
-    (arity_refused _ l.last l.i t.loop-i-test.true (found w) f.if-r-ne83.false
+    (arity_refused _ l.last l.i c.loop-i-test.true found c.if-r-ne83.false
     (sym (ap answer_outcome c.in-Refused.is) ∙ c.arity_of.ensures))
 
-again : tie.Need-loop-i-preserved invariant-loop-i decreases-loop-i
-again c =
-    let f = c.before.before in
-    let w = f.before.before in
-    let t = w.before.before in
-    let l = t.loop-i in
-    let s = small c in (
+pub overflow_cast-arities : goal.overflow_cast-arities
+overflow_cast-arities c =
+    let arity : passed c.in-Passed.b ≡ arity_outcome c.loop-i.i c.in-Found.r = sym (ap answer_outcome c.in-Passed.is) ∙ c.arity_of.ensures in
+    let small : (c.loop-i.i < most_symbols) × (c.in-Passed.b ≤ most_arity) = arity_small _ _ _ (sym arity) in
+    let s = small in omega arith
+
+pub bounds-arities-i : goal.bounds-arities-i
+bounds-arities-i c =
+    let arity : passed c.in-Passed.b ≡ arity_outcome c.loop-i.i c.in-Found.r = sym (ap answer_outcome c.in-Passed.is) ∙ c.arity_of.ensures in
+    let small : (c.loop-i.i < most_symbols) × (c.in-Passed.b ≤ most_arity) = arity_small _ _ _ (sym arity) in
+    let s = small in omega arith
+
+pub loop-i-preserved : goal.loop-i-preserved
+loop-i-preserved c =
+    let found : let l = c.loop-i in
+    wanted_at c.args.pack.now (8 * l.i) l.last 0 false ≡ Found c.in-Found.r = sym c.read_wanted.ensures ∙ c.in-Found.is in
+    let arity : passed c.in-Passed.b ≡ arity_outcome c.loop-i.i c.in-Found.r = sym (ap answer_outcome c.in-Passed.is) ∙ c.arity_of.ensures in
+    let small : (c.loop-i.i < most_symbols) × (c.in-Passed.b ≤ most_arity) = arity_small _ _ _ (sym arity) in
+    let l = c.loop-i in
+    let s = small in (
       omega arith,
       omega arith,
       omega arith,
       simp length-set (omega arith),
-      more _ _ l.last l.i l.invariant.4 _ (omega arith) (arity_read _ l.last l.i t.loop-i-test.true (found w) f.if-r-ne83.false (arity c)),
+      more _ _ l.last l.i l.invariant.4 _ (omega arith) (arity_read _ l.last l.i c.loop-i-test.true found c.if-r-ne83.false arity),
     )
 
-file_end : tie.Need-returns invariant-loop-i decreases-loop-i
-file_end c = let l = c.loop-i in ends _ _ l.last l.i l.invariant.4 (omega arith) (none_stands _ l.last l.i c.loop-i-test.false)
-
-pub read_symbols_spec : {M : Type 1} → statement M
-read_symbols_spec =
-    tie.close
-    (tie.spec
-    invariant-loop-i
-    decreases-loop-i
-    (λ c. (omega arith, omega arith, omega arith, omega arith, arities_none (symbol_steps 0 0 (all_records c.args.pack.now))))
-    (λ c. omega arith)
-    (λ c κs. omega arith)
-    (λ c. c.in-Found.in-Found-own.keys1)
-    (λ c. c.in_default.in_default-own.keys2)
-    (λ c. omega arith)
-    stray_record
-    (λ c. omega arith)
-    first_rule
-    (λ c κs. search rules)
-    (λ c. c.in-Refused.in-Refused-own.keys1)
-    (λ c. omega arith)
-    bad_arity
-    (λ c. c.in-Passed.in-Passed-own.keys2)
-    (λ c. let s = small c in omega arith)
-    (λ c. let s = small c in omega arith)
-    (λ c. omega arith)
-    (λ c. omega arith)
-    again
-    (λ c. omega arith)
-    file_end)
+pub returns : goal.returns
+returns c =
+    let l = c.loop-i in ends _ _ l.last l.i l.invariant.4 (omega arith) (none_stands _ l.last l.i c.loop-i-test.false)

@@ -18,8 +18,7 @@ use Rattle.terms.specs.Kept.{Kept, codes, part}
 use Rattle.pack_reader.specs.Stored.{Run, node_steps, rule_judged, NodesRead, RuleRead}
 use Rattle.pack_reader.proofs.RulesPhase.{nodes_told}
 use Rattle.pack_reader.proofs.KeptNodes.{kept_part, kept_left, kept_right}
-use Rattle.pack_reader.proofs.rules.read_rule.Statement.{statement}
-use Rattle.pack_reader.proofs.rules.read_rule.Tie as tie
+use Rattle.pack_reader.proofs.rules.read_rule.Goals as goal
 
 -- the nodes were refused
 nodes_refused : (o : Outcome Run) {a : Answer} (x : Refusal) (l base : ℕ) (ar before now : List ℕ) → a ≡ Refused x → NodesRead o a base before now
@@ -51,54 +50,29 @@ module _ (symbols b c base last : ℕ) (rs : List Record) (ar before now : List 
       let row : last ≡ y.last = passed_same (ap answer_outcome (sym is) ∙ h.answers) in
       record { answers = rw (← s.0, ← s.1, ← judged, ← row) told; untouched = h.untouched; kept = h.kept }
 
-refused_nodes : tie.Need-returns-in-Refused
-refused_nodes c =
-    let n = c.before.before.before in
-    let a = n.args in
-    nodes_refused (node_steps a.symbols 2 (a.b + a.c) (drop a.from (all_records a.pack.now))) c.in-Refused.x _ _ _ _ n.read_nodes.new.1.1.1.1.0 c.in-Refused.is n.read_nodes.ensures
+pub returns-in-Refused : goal.returns-in-Refused
+returns-in-Refused c =
+    let a = c.args in
+    nodes_refused (node_steps a.symbols 2 (a.b + a.c) (drop a.from (all_records a.pack.now))) c.in-Refused.x _ _ _ _ c.read_nodes.new.nodes c.in-Refused.is c.read_nodes.ensures
 
-judged : (c : tie.After-judge_rule) (x : Answer) → let l = c.before.before in
-    let n = l.before.before.before.before in
-    let a = n.args in
+pub returns-in-Refused-judge_rule : goal.returns-in-Refused-judge_rule
+returns-in-Refused-judge_rule c =
+    let judged : (x : Answer) → let a = c.args in
     answer_outcome x ≡ after (answer_outcome c.judge_rule.result) (λ k. passed c.in-Passed.last)
     → RuleRead (node_steps a.symbols 2 (a.b + a.c) (drop a.from (all_records a.pack.now))) a.b a.arities.now x a.base a.nodes.now
-    c.read_nodes.new.1.1.1.1.0
-judged c x told =
-    let l = c.before.before in
-    let n = l.before.before.before.before in
-    let a = n.args in
+    c.read_nodes.new.nodes = (λ x told. let a = c.args in
     nodes_judged a.symbols a.b a.c a.base c.in-Passed.last _ _ _ _ c.judge_rule.result x _ refl c.in-Passed.is c.read_nodes.ensures
-    c.judge_rule.ensures told
+    c.judge_rule.ensures told) in
+    judged (Refused c.in-Refused-judge_rule.x)
+    (ap (λ (a : Answer). after (answer_outcome a) (λ k. passed c.in-Passed.last)) (sym c.in-Refused-judge_rule.is))
 
-refused_sides : tie.Need-returns-in-Refused-judge_rule
-refused_sides c =
-    let j = c.before in
-    judged j (Refused c.in-Refused-judge_rule.x)
-    (ap (λ (a : Answer). after (answer_outcome a) (λ k. passed j.in-Passed.last)) (sym c.in-Refused-judge_rule.is))
-
-passed_rule : tie.Need-returns-in-Passed-judge_rule
-passed_rule c =
-    let j = c.before in
-    let row = j.in-Passed.last in
-    judged j (Passed row) (ap (λ (a : Answer). after (answer_outcome a) (λ k. passed row)) (sym c.in-Passed-judge_rule.is))
-
-pub read_rule_spec : {M : Type 1} → statement M
-read_rule_spec =
-    tie.close
-    (tie.spec
-    (λ c. search rules)
-    (λ c κs. search rules)
-    (λ c. search rules)
-    (λ c. search rules)
-    (λ c. search rules)
-    (λ c. search rules)
-    (λ c. search rules)
-    (λ c κs. search rules)
-    (λ c. search rules)
-    (λ c. search rules)
-    (λ c. search rules)
-    refused_nodes
-    (λ c. search rules)
-    refused_sides
-    (λ c. search rules)
-    passed_rule)
+pub returns-in-Passed-judge_rule : goal.returns-in-Passed-judge_rule
+returns-in-Passed-judge_rule c =
+    let judged : (x : Answer) → let a = c.args in
+    answer_outcome x ≡ after (answer_outcome c.judge_rule.result) (λ k. passed c.in-Passed.last)
+    → RuleRead (node_steps a.symbols 2 (a.b + a.c) (drop a.from (all_records a.pack.now))) a.b a.arities.now x a.base a.nodes.now
+    c.read_nodes.new.nodes = (λ x told. let a = c.args in
+    nodes_judged a.symbols a.b a.c a.base c.in-Passed.last _ _ _ _ c.judge_rule.result x _ refl c.in-Passed.is c.read_nodes.ensures
+    c.judge_rule.ensures told) in
+    let row = c.in-Passed.last in
+    judged (Passed row) (ap (λ (a : Answer). after (answer_outcome a) (λ k. passed row)) (sym c.in-Passed-judge_rule.is))
