@@ -20,7 +20,7 @@ returns-then-over-2 c =
     λ there before l m ws ms x t k known.
     as_call _ _ _ _ _ _ l m ws ms _
     (pair_right_over ms ws l.side.term m.side.term _ (x l ws ms t k (λ h. (known h).0)) _
-    (c.marked_side.ensures.0 m ws ms t k (λ h. (known h).1)) (sym c.over-2.ensures ∙ c.if-over-2.true))
+    (c.marked_side.ensures.side_summed m ws ms t k (λ h. (known h).1)) (sym c.over-2.ensures ∙ c.if-over-2.true))
 
 pub returns-then-not-all_at_least : goal.returns-then-not-all_at_least
 unfolding SideSummed
@@ -28,8 +28,8 @@ returns-then-not-all_at_least c =
     λ there before l m ws ms x t k known.
     as_call _ _ _ _ _ _ l m ws ms _
     (by_rising ms ws l.side.term m.side.term _ (x l ws ms t k (λ h. (known h).0)) _
-    (c.marked_side.ensures.0 m ws ms t k (λ h. (known h).1)) (sym c.over.ensures ∙ c.if-over.false)
-    (sym c.over-2.ensures ∙ c.if-over-2.false) (sym c.all_at_least.ensures ∙ not-true _ c.if-not-all_at_least.true))
+    (c.marked_side.ensures.side_summed m ws ms t k (λ h. (known h).1)) (sym c.over.ensures ∙ c.if-over.false)
+    (sym c.over-2.ensures ∙ c.if-over-2.false) (sym c.all_at_least.ensures ∙ c.if-not-all_at_least.true))
 
 pub returns-then-x-y : goal.returns-then-x-y
 unfolding SideSummed
@@ -37,8 +37,8 @@ returns-then-x-y c =
     λ there before l m ws ms x t k known.
     as_call _ _ _ _ _ _ l m ws ms _
     (by_staying ms ws l.side.term m.side.term _ (x l ws ms t k (λ h. (known h).0)) _
-    (c.marked_side.ensures.0 m ws ms t k (λ h. (known h).1)) (sym c.over.ensures ∙ c.if-over.false)
-    (sym c.over-2.ensures ∙ c.if-over-2.false) (sym c.all_at_least.ensures ∙ not-false _ c.if-not-all_at_least.false) c.if-x-y.true)
+    (c.marked_side.ensures.side_summed m ws ms t k (λ h. (known h).1)) (sym c.over.ensures ∙ c.if-over.false)
+    (sym c.over-2.ensures ∙ c.if-over-2.false) (sym c.all_at_least.ensures ∙ c.if-not-all_at_least.false) c.if-x-y.true)
 
 pub returns : goal.returns
 unfolding SideSummed
@@ -46,5 +46,5 @@ returns c =
     λ there before l m ws ms x t k known.
     as_call _ _ _ _ _ _ l m ws ms _
     (by_falling ms ws l.side.term m.side.term _ (x l ws ms t k (λ h. (known h).0)) _
-    (c.marked_side.ensures.0 m ws ms t k (λ h. (known h).1)) (sym c.over.ensures ∙ c.if-over.false)
-    (sym c.over-2.ensures ∙ c.if-over-2.false) (sym c.all_at_least.ensures ∙ not-false _ c.if-not-all_at_least.false) c.if-x-y.false)
+    (c.marked_side.ensures.side_summed m ws ms t k (λ h. (known h).1)) (sym c.over.ensures ∙ c.if-over.false)
+    (sym c.over-2.ensures ∙ c.if-over-2.false) (sym c.all_at_least.ensures ∙ c.if-not-all_at_least.false) c.if-x-y.false)
