@@ -1,11 +1,17 @@
 #![tactic(auto)]
 // Names of files: put together in a buffer, and shown so that each fills one line and is no other's.
+
 ghost use Rattle.std.specs.Prelude.{◌≡◌, [], ◌∷◌, ◌++◌, ◌+◌, ◌*◌, ◌-◌, ◌≤◌, ◌<◌, min, length, take};
 ghost use Rattle.std.proofs.Math.Seq.{paste};
-ghost use Rattle.io.specs.Counts.{IsPrefixLen};
+ghost use Rattle.names.specs.Counts.{IsPrefixLen};
 ghost use Rattle.names.specs.Shown.{plain, shown, shown_byte};
 
-use libc::PATH_MAX;
+use std::fmt::InlineText;
+use std::io;
+use std::io::Print;
+
+// The most bytes of a path, with the 0 that ends it.
+pub const PATH_MAX: usize = 4096;
 
 const FIRST_PLAIN: u8 = 32;
 
@@ -14,7 +20,7 @@ const BACKSLASH: u8 = 92;
 const DELETE: u8 = 127;
 
 // How much of a name is shown that is too long.
-const NAME_SHOWN: isize = 64;
+const NAME_SHOWN: usize = 64;
 
 // A byte takes four at the most where it is shown.
 const TITLE_ROOM: usize = 4 * PATH_MAX;
@@ -110,22 +116,32 @@ fn put_title(name: &[u8], out: &mut [u8]) -> usize
     if name.len() < PATH_MAX {
         return put_name(name, out, 0);
     }
-    let some = io::count(NAME_SHOWN, name);
-    let n = put_name(&name[..some], out, 0);
+    let n = put_name(&name[..NAME_SHOWN], out, 0);
     put(b"..", out, n)
 }
 
 // Writes the name as it is shown and the words at once, so that lines of programs side by side stay whole.
-pub fn write_line(fd: i32, name: &[u8], words: &[u8]) -> bool {
+pub fn write_line(to: &impl Print, name: &[u8], words: &[u8]) -> io::Result<()> {
     let mut text = [0u8; TITLE_ROOM + WORDS_ROOM];
     let n = put_title(name, &mut text);
     let m = put(words, &mut text, n);
-    io::write_all(fd, &text[..m])
+    to.write_all(&text[..m])
 }
 
-// Writes a line to standard error: the name, a colon and errno's text.
-pub fn fail(name: &[u8]) {
-    let mut text = [0u8; TITLE_ROOM];
-    let n = put_title(name, &mut text);
-    os::fail(&text[..n]);
+// What the C library says of an error of the system, without the number that std puts behind it.
+fn reason(text: &str) -> &str {
+    match text.split_once(" (os error ") {
+        Some((words, _)) => words,
+        None => text,
+    }
+}
+
+// Writes a line to standard error: the name, a colon and what the error says. Where nothing can be written there, nobody can be told.
+pub fn fail(rt: &HostRuntime, name: &[u8], error: io::Error) {
+    let said = InlineText::<WORDS_ROOM>::of(error);
+    let mut words = [0u8; WORDS_ROOM];
+    let n = put(b": ", &mut words, 0);
+    let m = put(reason(said.as_str()).as_bytes(), &mut words, n);
+    let end = put(b"\n", &mut words, m);
+    let _ = write_line(&rt.stderr(), name, &words[..end]);
 }
