@@ -1,7 +1,5 @@
 #![tactic(auto)]
 // Files and standard input, read so that a failure is told from the end; and files written whole or not at all.
-#![tactic(auto)]
-
 mod write;
 
 ghost use Rattle.std.specs.Prelude.{◌≡◌, min, length};

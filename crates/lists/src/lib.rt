@@ -1,8 +1,6 @@
 #![tactic(auto)]
 // A list of pairs of files, line by line: a pack's name, a tab, a certificate's name. A line ends in a line end or, so that names may
 // hold one, in a byte 0. A list may be longer than any buffer, so what was read of it and not yet taken stands in a window.
-#![tactic(auto)]
-
 ghost use Rattle.std.specs.Prelude.{ℕ, ◌-◌, ◌≤◌, ◌<◌, length};
 ghost use Rattle.lists.specs.Lists.{Emptied, EndsAt, Filled, First, Refilled, Splits, Stands, Whole};
 

@@ -1,6 +1,5 @@
 #![tactic(auto)]
 // Names of files: put together in a buffer, and shown so that each fills one line and is no other's.
-
 ghost use Rattle.std.specs.Prelude.{◌≡◌, [], ◌∷◌, ◌++◌, ◌+◌, ◌*◌, ◌-◌, ◌≤◌, ◌<◌, min, length, take};
 ghost use Rattle.std.proofs.Math.Seq.{paste};
 ghost use Rattle.names.specs.Counts.{IsPrefixLen};
