@@ -130,6 +130,17 @@ pub fn argument(rt: &HostRuntime, i: usize, buf: &mut [u8]) -> io::Result<usize>
     }
 }
 
+// How many arguments there are, the program's name among them.
+pub fn argument_count(rt: &HostRuntime) -> usize {
+    let mut start = [0u8; 1];
+    for i in 0..usize::MAX {
+        if let Err(FillError::NotPresent) = rt.arg(i, &mut start) {
+            return i;
+        }
+    }
+    usize::MAX
+}
+
 // Whether argument i is `-`, which stands for standard input.
 pub fn is_input(rt: &HostRuntime, i: usize) -> bool {
     is_word(rt, i, b"-")

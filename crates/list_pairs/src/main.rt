@@ -3,18 +3,18 @@
 use files::FileRead;
 use records::Answer;
 
-fn main() {
+fn main(rt: HostRuntime) {
     // One byte more than the limit is enough to see that a pack is too long.
     let mut pack = [0u8; 33793];
     let mut list = [0u8; 16384];
-    let read = files::read_input(&mut pack);
-    if let FileRead::Failed = read {
+    let read = files::read_input(&rt, &mut pack);
+    if let FileRead::Failed(_) = read {
         return;
     }
     let length = files::held(read, &pack);
     let written = match teldyzhom::list_pairs(&pack[..length], &mut list) {
-        Answer::Refused(x) => printing::refused(x),
-        Answer::Passed(n) => printing::pairs(&list, n),
+        Answer::Refused(x) => printing::refused(&rt, x),
+        Answer::Passed(n) => printing::pairs(&rt, &list, n),
     };
-    printing::finished(written);
+    printing::finished(&rt, written);
 }

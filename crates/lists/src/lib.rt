@@ -15,7 +15,7 @@ pub const ZERO: u8 = 0;
 
 // What was taken from a list: a line, a last line without its end, the start or a part of one that is longer than the buffer,
 // nothing since the list has ended, or nothing since it could not be read, and why.
-#[derive(Drop)]
+#[derive(Clone, Copy)]
 pub enum Taken {
     Line,
     Unended,
