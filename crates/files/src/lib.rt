@@ -7,7 +7,7 @@ ghost use Rattle.std.specs.Io.{ReadsAtMost};
 ghost use Rattle.names.specs.Counts.{IsPrefixLen};
 ghost use Rattle.files.specs.Read.{bytes_read};
 
-use names::PATH_MAX;
+use names::{Console, PATH_MAX};
 use std::env::FillError;
 use std::fs::File;
 use std::io;
@@ -71,13 +71,13 @@ pub fn read_open<R: Read>(from: &mut R, buf: &mut [u8]) -> FileRead
 }
 
 // Reads standard input; says so where it cannot.
-pub fn read_input(rt: &HostRuntime, buf: &mut [u8]) -> FileRead
+pub fn read_input(console: &Console, buf: &mut [u8]) -> FileRead
     ensures { IsPrefixLen (bytes_read result) buf.new }
 {
-    let mut input = rt.stdin();
+    let mut input = console.rt.stdin();
     let r = read_open(&mut input, buf);
     if let FileRead::Failed(error) = r {
-        names::fail(rt, b"standard input", error);
+        names::fail(console, b"standard input", error);
     }
     r
 }
@@ -97,33 +97,33 @@ fn text_of(path: &[u8]) -> io::Result<&str> {
 }
 
 // Opens the file at path to read it.
-pub fn open_path(rt: &HostRuntime, path: &[u8]) -> io::Result<File> {
-    File::open(rt, text_of(path)?)
+pub fn open_path(console: &Console, path: &[u8]) -> io::Result<File> {
+    File::open(&console.rt, text_of(path)?)
 }
 
 // Reads the file at path, at most as much as buf holds; says so, by name, where it cannot.
-pub fn read_path(rt: &HostRuntime, path: &[u8], buf: &mut [u8]) -> FileRead
+pub fn read_path(console: &Console, path: &[u8], buf: &mut [u8]) -> FileRead
     ensures { IsPrefixLen (bytes_read result) buf.new }
 {
-    let mut file = match open_path(rt, path) {
+    let mut file = match open_path(console, path) {
         Ok(file) => file,
         Err(error) => {
-            names::fail(rt, path, error);
+            names::fail(console, path, error);
             return FileRead::Failed(error);
         }
     };
     let r = read_open(&mut file, buf);
     if let FileRead::Failed(error) = r {
-        names::fail(rt, path, error);
+        names::fail(console, path, error);
     }
     r
 }
 
 // Puts argument i at the start of buf, and answers its length. One that is longer leaves its first bytes there.
-pub fn argument(rt: &HostRuntime, i: usize, buf: &mut [u8]) -> io::Result<usize>
+pub fn argument(console: &Console, i: usize, buf: &mut [u8]) -> io::Result<usize>
     ensures { ReadsAtMost result buf.new }
 {
-    match rt.arg(i, buf) {
+    match console.rt.arg(i, buf) {
         Ok(n) => Ok(n),
         Err(FillError::TooLong) => Err(Error::from_raw_os_error(NAME_TOO_LONG)),
         Err(FillError::NotPresent) => Err(Error::from_raw_os_error(INVALID_ARGUMENT)),
@@ -131,10 +131,10 @@ pub fn argument(rt: &HostRuntime, i: usize, buf: &mut [u8]) -> io::Result<usize>
 }
 
 // How many arguments there are, the program's name among them.
-pub fn argument_count(rt: &HostRuntime) -> usize {
+pub fn argument_count(console: &Console) -> usize {
     let mut start = [0u8; 1];
     for i in 0..usize::MAX {
-        if let Err(FillError::NotPresent) = rt.arg(i, &mut start) {
+        if let Err(FillError::NotPresent) = console.rt.arg(i, &mut start) {
             return i;
         }
     }
@@ -142,31 +142,31 @@ pub fn argument_count(rt: &HostRuntime) -> usize {
 }
 
 // Whether argument i is `-`, which stands for standard input.
-pub fn is_input(rt: &HostRuntime, i: usize) -> bool {
-    is_word(rt, i, b"-")
+pub fn is_input(console: &Console, i: usize) -> bool {
+    is_word(console, i, b"-")
 }
 
 // Whether argument i is the word.
-pub fn is_word(rt: &HostRuntime, i: usize, word: &[u8]) -> bool {
+pub fn is_word(console: &Console, i: usize, word: &[u8]) -> bool {
     let mut given = [0u8; 16];
-    match argument(rt, i, &mut given) {
+    match argument(console, i, &mut given) {
         Ok(n) => &given[..n] == word,
         Err(_) => false,
     }
 }
 
 // Reads the file that argument i names, `-` for standard input; says so where it cannot.
-pub fn read_argument(rt: &HostRuntime, i: usize, buf: &mut [u8]) -> FileRead
+pub fn read_argument(console: &Console, i: usize, buf: &mut [u8]) -> FileRead
     ensures { IsPrefixLen (bytes_read result) buf.new }
 {
-    if is_input(rt, i) {
-        return read_input(rt, buf);
+    if is_input(console, i) {
+        return read_input(console, buf);
     }
     let mut path = [0u8; PATH_MAX];
-    match argument(rt, i, &mut path) {
-        Ok(n) => read_path(rt, &path[..n], buf),
+    match argument(console, i, &mut path) {
+        Ok(n) => read_path(console, &path[..n], buf),
         Err(error) => {
-            names::fail(rt, &path, error);
+            names::fail(console, &path, error);
             FileRead::Failed(error)
         }
     }

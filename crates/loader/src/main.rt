@@ -8,6 +8,7 @@ ghost use Rattle.loader.specs.Status.{status_of};
 ghost use Rattle.runs.specs.Runs.{greatest};
 
 use files::FileRead;
+use names::{Console, UNREAD};
 use numbers::Parsed;
 use pairs::ArcAnswer;
 use records::{Answer, Refusal};
@@ -23,80 +24,80 @@ const TEXT_ROOM: usize = records::MOST_TEXT_BYTES + 1;
 const LIST_ROOM: usize = 8 * records::MOST_PAIRS;
 
 // What the run comes to once its answer was written, or not.
-fn after(rt: &HostRuntime, written: io::Result<()>, answer: Ended) -> Ended {
-    if printing::finished(rt, written) {
+fn after(console: &Console, written: io::Result<()>, answer: Ended) -> Ended {
+    if printing::finished(console, written) {
         return answer;
     }
     Ended::Unjudged
 }
 
 // The answer's line, then the words for it.
-fn refused(rt: &HostRuntime, x: Refusal) -> Ended {
+fn refused(console: &Console, x: Refusal) -> Ended {
     let words = printing::words::meaning(&x);
-    if !printing::finished(rt, printing::refused(rt, x)) {
+    if !printing::finished(console, printing::refused(console, x)) {
         return Ended::Unjudged;
     }
-    let _ = printing::words::tell(rt, words);
+    let _ = printing::words::tell(console, words);
     Ended::Against
 }
 
-fn usage(rt: &HostRuntime) -> Ended {
-    let _ = eprintln!(rt;
+fn usage(console: &Console) -> Ended {
+    let _ = eprintln!(console;
         "usage: loader check PACK CERTIFICATE [PACK CERTIFICATE ..]\n       loader check --list FILE\n       loader check --list0 FILE\n       loader pairs PACK\n       loader arc PACK RULE PLACE RULE PLACE\n       loader read TEXT PACK"
     );
     Ended::Unjudged
 }
 
-fn tell_checked(rt: &HostRuntime, answer: Checked) -> Ended {
+fn tell_checked(console: &Console, answer: Checked) -> Ended {
     match answer {
-        Checked::Accepted => after(rt, println!(rt; "accepted"), Ended::Good),
-        Checked::Refused(x) => refused(rt, x),
+        Checked::Accepted => after(console, println!(console; "accepted"), Ended::Good),
+        Checked::Refused(x) => refused(console, x),
     }
 }
 
-fn tell_arc(rt: &HostRuntime, answer: ArcAnswer) -> Ended {
+fn tell_arc(console: &Console, answer: ArcAnswer) -> Ended {
     match answer {
-        ArcAnswer::Yes => after(rt, println!(rt; "yes"), Ended::Good),
-        ArcAnswer::No => after(rt, println!(rt; "no"), Ended::Against),
-        ArcAnswer::Refused(x) => refused(rt, x),
+        ArcAnswer::Yes => after(console, println!(console; "yes"), Ended::Good),
+        ArcAnswer::No => after(console, println!(console; "no"), Ended::Against),
+        ArcAnswer::Refused(x) => refused(console, x),
     }
 }
 
-fn check(rt: &HostRuntime, pack_at: usize, certificate_at: usize) -> Ended {
+fn check(console: &Console, pack_at: usize, certificate_at: usize) -> Ended {
     let mut pack = [0u8; PACK_ROOM];
     let mut certificate = [0u8; CERTIFICATE_ROOM];
-    let pack_read = files::read_argument(rt, pack_at, &mut pack);
+    let pack_read = files::read_argument(console, pack_at, &mut pack);
     if let FileRead::Failed(_) = pack_read {
         return Ended::Unjudged;
     }
-    let certificate_read = files::read_argument(rt, certificate_at, &mut certificate);
+    let certificate_read = files::read_argument(console, certificate_at, &mut certificate);
     if let FileRead::Failed(_) = certificate_read {
         return Ended::Unjudged;
     }
     let n = files::held(pack_read, &pack);
     let m = files::held(certificate_read, &certificate);
     tell_checked(
-        rt,
+        console,
         teldyzhom::check_certificate(&pack[..n], &certificate[..m]),
     )
 }
 
-fn pairs_of(rt: &HostRuntime, pack_at: usize) -> Ended {
+fn pairs_of(console: &Console, pack_at: usize) -> Ended {
     let mut pack = [0u8; PACK_ROOM];
     let mut list = [0u8; LIST_ROOM];
-    let pack_read = files::read_argument(rt, pack_at, &mut pack);
+    let pack_read = files::read_argument(console, pack_at, &mut pack);
     if let FileRead::Failed(_) = pack_read {
         return Ended::Unjudged;
     }
     let n = files::held(pack_read, &pack);
     match teldyzhom::list_pairs(&pack[..n], &mut list) {
-        Answer::Refused(x) => refused(rt, x),
-        Answer::Passed(k) => after(rt, printing::pairs(rt, &list, k), Ended::Good),
+        Answer::Refused(x) => refused(console, x),
+        Answer::Passed(k) => after(console, printing::pairs(console, &list, k), Ended::Good),
     }
 }
 
 fn ask(
-    rt: &HostRuntime,
+    console: &Console,
     pack_at: usize,
     rule: u32,
     place: u32,
@@ -104,67 +105,71 @@ fn ask(
     other_place: u32,
 ) -> Ended {
     let mut pack = [0u8; PACK_ROOM];
-    let pack_read = files::read_argument(rt, pack_at, &mut pack);
+    let pack_read = files::read_argument(console, pack_at, &mut pack);
     if let FileRead::Failed(_) = pack_read {
         return Ended::Unjudged;
     }
     let n = files::held(pack_read, &pack);
     tell_arc(
-        rt,
+        console,
         teldyzhom::arc_runs(&pack[..n], rule, place, other_rule, other_place),
     )
 }
 
-fn arc(rt: &HostRuntime, at: usize) -> Ended
+fn arc(console: &Console, at: usize) -> Ended
     requires { at ≤ 3 }
 {
-    let Parsed::Number(a) = numbers::argument(rt, at + 1) else {
-        return usage(rt);
+    let Parsed::Number(a) = numbers::argument(console, at + 1) else {
+        return usage(console);
     };
-    let Parsed::Number(b) = numbers::argument(rt, at + 2) else {
-        return usage(rt);
+    let Parsed::Number(b) = numbers::argument(console, at + 2) else {
+        return usage(console);
     };
-    let Parsed::Number(c) = numbers::argument(rt, at + 3) else {
-        return usage(rt);
+    let Parsed::Number(c) = numbers::argument(console, at + 3) else {
+        return usage(console);
     };
-    let Parsed::Number(d) = numbers::argument(rt, at + 4) else {
-        return usage(rt);
+    let Parsed::Number(d) = numbers::argument(console, at + 4) else {
+        return usage(console);
     };
-    ask(rt, at, a, b, c, d)
+    ask(console, at, a, b, c, d)
 }
 
 // Writes the pack, and then its length as the answer; the pack stays where the answer cannot be told.
-fn give_pack(rt: &HostRuntime, pack_at: usize, pack: &[u8]) -> Ended {
-    if !files::write_argument(rt, pack_at, pack) {
+fn give_pack(console: &Console, pack_at: usize, pack: &[u8]) -> Ended {
+    if !files::write_argument(console, pack_at, pack) {
         return Ended::Unjudged;
     }
-    after(rt, printing::number(rt, pack.len() as u64), Ended::Good)
+    after(
+        console,
+        printing::number(console, pack.len() as u64),
+        Ended::Good,
+    )
 }
 
-fn read(rt: &HostRuntime, text_at: usize, pack_at: usize) -> Ended {
+fn read(console: &Console, text_at: usize, pack_at: usize) -> Ended {
     let mut text = [0u8; TEXT_ROOM];
     let mut pack = [0u8; records::MOST_PACK_BYTES];
-    let text_read = files::read_argument(rt, text_at, &mut text);
+    let text_read = files::read_argument(console, text_at, &mut text);
     if let FileRead::Failed(_) = text_read {
         return Ended::Unjudged;
     }
     let n = files::held(text_read, &text);
     match teldyzhom::read_text(&text[..n], &mut pack) {
-        Answer::Refused(x) => refused(rt, x),
+        Answer::Refused(x) => refused(console, x),
         Answer::Passed(k) => {
             // All k of them: the answer is never more than the buffer holds.
             let m = files::held(FileRead::Bytes(k), &pack);
-            give_pack(rt, pack_at, &pack[..m])
+            give_pack(console, pack_at, &pack[..m])
         }
     }
 }
 
 // Whether an argument from `first` on below `end` is `-`.
-fn names_input(rt: &HostRuntime, first: usize, end: usize) -> bool
+fn names_input(console: &Console, first: usize, end: usize) -> bool
     requires { first ≤ end }
 {
     for i in first..end {
-        if files::is_input(rt, i) {
+        if files::is_input(console, i) {
             return true;
         }
     }
@@ -172,74 +177,74 @@ fn names_input(rt: &HostRuntime, first: usize, end: usize) -> bool
 }
 
 // Checks the pairs of a list. Its name is the one argument after the flag, argument `first`; its lines end in that byte.
-fn check_list(rt: &HostRuntime, first: usize, end: usize, ends: u8) -> Ended
+fn check_list(console: &Console, first: usize, end: usize, ends: u8) -> Ended
     requires { first + 2 ≤ end }
 {
     if end - first == 2 {
-        return runs::check_list(rt, first + 1, ends);
+        return runs::check_list(console, first + 1, ends);
     }
-    usage(rt)
+    usage(console)
 }
 
 // Checks the one pair, the list, or each of the pairs that the arguments from `first` on below `end` name.
-fn check_all(rt: &HostRuntime, first: usize, end: usize) -> Ended
+fn check_all(console: &Console, first: usize, end: usize) -> Ended
     requires { first + 2 ≤ end }
 {
-    if files::is_word(rt, first, b"--list") {
-        return check_list(rt, first, end, lists::LINE_END);
+    if files::is_word(console, first, b"--list") {
+        return check_list(console, first, end, lists::LINE_END);
     }
-    if files::is_word(rt, first, b"--list0") {
-        return check_list(rt, first, end, lists::ZERO);
+    if files::is_word(console, first, b"--list0") {
+        return check_list(console, first, end, lists::ZERO);
     }
     if end - first == 2 {
         // Standard input has one file.
-        if files::is_input(rt, first) {
-            if files::is_input(rt, first + 1) {
-                return usage(rt);
+        if files::is_input(console, first) {
+            if files::is_input(console, first + 1) {
+                return usage(console);
             }
         }
-        return check(rt, first, first + 1);
+        return check(console, first, first + 1);
     }
     // An odd one is of no pair, and standard input is no file of a run over several.
     if (end - first) % 2 == 1 {
-        return usage(rt);
+        return usage(console);
     }
-    if names_input(rt, first, end) {
-        return usage(rt);
+    if names_input(console, first, end) {
+        return usage(console);
     }
-    runs::check_named(rt, first, end)
+    runs::check_named(console, first, end)
 }
 
 // Answers the question whose verb is argument `at`, of `given` words from the verb on.
-fn answer(rt: &HostRuntime, at: usize, given: usize) -> Ended
+fn answer(console: &Console, at: usize, given: usize) -> Ended
     requires at_bound { at ≤ 2 }
     requires given_bound { at + given ≤ greatest }
 {
     if 2 < given {
-        if files::is_word(rt, at, b"check") {
-            return check_all(rt, at + 1, at + given);
+        if files::is_word(console, at, b"check") {
+            return check_all(console, at + 1, at + given);
         }
     }
     if given == 3 {
-        if files::is_word(rt, at, b"read") {
+        if files::is_word(console, at, b"read") {
             // A pack is no text: it goes to a file, and never to standard output.
-            if files::is_input(rt, at + 2) {
-                return usage(rt);
+            if files::is_input(console, at + 2) {
+                return usage(console);
             }
-            return read(rt, at + 1, at + 2);
+            return read(console, at + 1, at + 2);
         }
     }
     if given == 2 {
-        if files::is_word(rt, at, b"pairs") {
-            return pairs_of(rt, at + 1);
+        if files::is_word(console, at, b"pairs") {
+            return pairs_of(console, at + 1);
         }
     }
     if given == 6 {
-        if files::is_word(rt, at, b"arc") {
-            return arc(rt, at + 1);
+        if files::is_word(console, at, b"arc") {
+            return arc(console, at + 1);
         }
     }
-    usage(rt)
+    usage(console)
 }
 
 // The exit status: 0 accepted, yes, a listing or a pack; 1 refused or no; 2 nothing was judged.
@@ -254,9 +259,15 @@ fn status(e: Ended) -> ExitCode
 }
 
 fn main(rt: HostRuntime) -> ExitCode {
-    let given = files::argument_count(&rt);
-    if given < 2 {
-        return status(usage(&rt));
+    let console = Console::new(rt);
+    let given = files::argument_count(&console);
+    let ended = if given < 2 {
+        usage(&console)
+    } else {
+        answer(&console, 1, given - 1)
+    };
+    if console.is_unread() {
+        return ExitCode::from(UNREAD);
     }
-    status(answer(&rt, 1, given - 1))
+    status(ended)
 }

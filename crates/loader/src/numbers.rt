@@ -1,4 +1,5 @@
 // Numbers on the command line.
+use names::Console;
 
 // A number, or another word.
 #[derive(Drop)]
@@ -44,9 +45,9 @@ fn spelled(s: &[u8]) -> Parsed {
 }
 
 // The number that argument i spells; one that is longer than the buffer is told as another word, as one that is missing is.
-pub fn argument(rt: &HostRuntime, i: usize) -> Parsed {
+pub fn argument(console: &Console, i: usize) -> Parsed {
     let mut word = [0u8; 32];
-    match files::argument(rt, i, &mut word) {
+    match files::argument(console, i, &mut word) {
         Ok(n) => spelled(&word[..n]),
         Err(_) => Parsed::Other,
     }

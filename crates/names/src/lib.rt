@@ -1,10 +1,13 @@
 #![tactic(auto)]
 // Names of files: put together in a buffer, and shown so that each fills one line and is no other's.
+mod console;
+
 ghost use Rattle.std.specs.Prelude.{◌≡◌, [], ◌∷◌, ◌++◌, ◌+◌, ◌*◌, ◌-◌, ◌≤◌, ◌<◌, min, length, take};
 ghost use Rattle.std.proofs.Math.Seq.{paste};
 ghost use Rattle.names.specs.Counts.{IsPrefixLen};
 ghost use Rattle.names.specs.Shown.{plain, shown, shown_byte};
 
+pub use console::{Console, UNREAD};
 use std::fmt::InlineText;
 use std::io;
 use std::io::Print;
@@ -26,6 +29,8 @@ const TITLE_ROOM: usize = 4 * PATH_MAX;
 
 // The most words after a name, in bytes.
 const WORDS_ROOM: usize = 128;
+
+const LINE_ROOM: usize = TITLE_ROOM + WORDS_ROOM;
 
 pub fn least(a: usize, b: usize) -> usize
     ensures value { result ≡ min a b }
@@ -119,12 +124,27 @@ fn put_title(name: &[u8], out: &mut [u8]) -> usize
     put(b"..", out, n)
 }
 
+// Puts the name as it is shown and the words into text, and answers where they end.
+fn put_line(name: &[u8], words: &[u8], text: &mut [u8]) -> usize
+    requires { 4 * 4095 ≤ length text.old }
+    ensures { IsPrefixLen result text.new }
+{
+    let n = put_title(name, text);
+    put(words, text, n)
+}
+
 // Writes the name as it is shown and the words at once, so that lines of programs side by side stay whole.
-pub fn write_line(to: &impl Print, name: &[u8], words: &[u8]) -> io::Result<()> {
-    let mut text = [0u8; TITLE_ROOM + WORDS_ROOM];
-    let n = put_title(name, &mut text);
-    let m = put(words, &mut text, n);
-    to.write_all(&text[..m])
+pub fn write_line(console: &Console, name: &[u8], words: &[u8]) -> io::Result<()> {
+    let mut text = [0u8; LINE_ROOM];
+    let n = put_line(name, words, &mut text);
+    console.write_all(&text[..n])
+}
+
+// The same to standard error. Where nothing can be written there, nobody can be told.
+pub fn say_line(console: &Console, name: &[u8], words: &[u8]) {
+    let mut text = [0u8; LINE_ROOM];
+    let n = put_line(name, words, &mut text);
+    let _ = console.say(&text[..n]);
 }
 
 // What the C library says of an error of the system, without the number that std puts behind it.
@@ -135,12 +155,12 @@ fn reason(text: &str) -> &str {
     }
 }
 
-// Writes a line to standard error: the name, a colon and what the error says. Where nothing can be written there, nobody can be told.
-pub fn fail(rt: &HostRuntime, name: &[u8], error: io::Error) {
+// Writes a line to standard error: the name, a colon and what the error says.
+pub fn fail(console: &Console, name: &[u8], error: io::Error) {
     let said = InlineText::<WORDS_ROOM>::of(error);
     let mut words = [0u8; WORDS_ROOM];
     let n = put(b": ", &mut words, 0);
     let m = put(reason(said.as_str()).as_bytes(), &mut words, n);
     let end = put(b"\n", &mut words, m);
-    let _ = write_line(&rt.stderr(), name, &words[..end]);
+    say_line(console, name, &words[..end]);
 }

@@ -3,46 +3,47 @@
 pub mod lines;
 pub mod words;
 
+use names::Console;
 use records::{Record, Refusal};
 use std::io;
 use std::io::{Error, ErrorKind};
 
 // Says so where not all could be written.
-pub fn finished(rt: &HostRuntime, written: io::Result<()>) -> bool {
+pub fn finished(console: &Console, written: io::Result<()>) -> bool {
     match written {
         Ok(()) => true,
         Err(error) => {
-            names::fail(rt, b"standard output", error);
+            names::fail(console, b"standard output", error);
             false
         }
     }
 }
 
 // A number's line.
-pub fn number(rt: &HostRuntime, n: u64) -> io::Result<()> {
-    println!(rt; "{n}")
+pub fn number(console: &Console, n: u64) -> io::Result<()> {
+    println!(console; "{n}")
 }
 
 // `refused` and the number.
-pub fn refused(rt: &HostRuntime, x: Refusal) -> io::Result<()> {
+pub fn refused(console: &Console, x: Refusal) -> io::Result<()> {
     let n = records::number(x);
-    println!(rt; "refused {n}")
+    println!(console; "refused {n}")
 }
 
 // One pair, of its record in a listing: rule, space, place.
-fn pair(rt: &HostRuntime, r: Record) -> io::Result<()> {
+fn pair(console: &Console, r: Record) -> io::Result<()> {
     let rule = r.a;
     let place = r.b;
-    println!(rt; "{rule} {place}")
+    println!(console; "{rule} {place}")
 }
 
 // A line a pair, from the first n records of a listing, which must have as many.
-pub fn pairs(rt: &HostRuntime, list: &[u8], n: usize) -> io::Result<()> {
+pub fn pairs(console: &Console, list: &[u8], n: usize) -> io::Result<()> {
     for i in 0..n {
         if list.len() / 8 <= i {
             return Err(Error::from(ErrorKind::UnexpectedEof));
         }
-        pair(rt, records::record_at(list, 8 * i))?;
+        pair(console, records::record_at(list, 8 * i))?;
     }
     Ok(())
 }

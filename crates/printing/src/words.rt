@@ -1,4 +1,5 @@
 // The documents' words for each number, on standard error.
+use names::Console;
 use records::Refusal;
 use std::io;
 use std::io::Eprint;
@@ -42,6 +43,6 @@ pub fn meaning(x: &Refusal) -> &'static str {
 }
 
 // Writes the words' line to standard error.
-pub fn tell(rt: &impl Eprint, words: &str) -> io::Result<()> {
-    rt.eprintln(words)
+pub fn tell(console: &Console, words: &str) -> io::Result<()> {
+    console.eprintln(words)
 }

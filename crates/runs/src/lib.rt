@@ -7,7 +7,7 @@ ghost use Rattle.runs.specs.Runs.{greatest, told_of, total, AllCounted, Answered
 
 use files::FileRead;
 use lists::{Tabs, Taken};
-use names::PATH_MAX;
+use names::{Console, PATH_MAX};
 use std::io;
 use std::io::Read;
 use teldyzhom::Checked;
@@ -111,46 +111,58 @@ fn worst(t: Tally) -> Ended
 }
 
 // The run's last line.
-fn conclude(rt: &HostRuntime, t: Tally) -> Ended
+fn conclude(console: &Console, t: Tally) -> Ended
     ensures { Concluded t result }
 {
-    printing::lines::settle(rt);
-    let written = printing::lines::counts(rt, t.accepted, t.refused, t.unread);
-    if !printing::finished(rt, written) {
+    printing::lines::settle(console);
+    let written = printing::lines::counts(console, t.accepted, t.refused, t.unread);
+    if !printing::finished(console, written) {
         return Ended::Unjudged;
     }
     worst(t)
 }
 
-fn if_written(rt: &HostRuntime, written: io::Result<()>, answer: Told) -> Told
+fn if_written(console: &Console, written: io::Result<()>, answer: Told) -> Told
     ensures { ToldAs answer result }
 {
-    if printing::finished(rt, written) {
+    if printing::finished(console, written) {
         return answer;
     }
     Told::Lost
 }
 
-fn tell_checked(rt: &HostRuntime, name: &[u8], answer: Checked) -> Told
+fn tell_checked(console: &Console, name: &[u8], answer: Checked) -> Told
     ensures says { ToldAs (told_of answer) result }
     ensures answers { Answered result }
 {
     match answer {
-        Checked::Accepted => if_written(rt, printing::lines::accepted(rt, name), Told::Accepted),
-        Checked::Refused(x) => if_written(rt, printing::lines::refused(rt, name, x), Told::Refused),
+        Checked::Accepted => if_written(
+            console,
+            printing::lines::accepted(console, name),
+            Told::Accepted,
+        ),
+        Checked::Refused(x) => if_written(
+            console,
+            printing::lines::refused(console, name, x),
+            Told::Refused,
+        ),
     }
 }
 
-fn tell_unread(rt: &HostRuntime, name: &[u8]) -> Told
+fn tell_unread(console: &Console, name: &[u8]) -> Told
     ensures says { ToldAs Unread result }
     ensures answers { Answered result }
 {
-    if_written(rt, printing::lines::unread(rt, name), Told::Unread)
+    if_written(
+        console,
+        printing::lines::unread(console, name),
+        Told::Unread,
+    )
 }
 
 // Checks the pack and the certificate of these names, and tells it by the pack's name, or by that of the file that could not be read.
 fn check_pair(
-    rt: &HostRuntime,
+    console: &Console,
     pack_name: &[u8],
     certificate_name: &[u8],
     pack: &mut [u8],
@@ -158,18 +170,18 @@ fn check_pair(
 ) -> Told
     ensures { Answered result }
 {
-    let pack_read = files::read_path(rt, pack_name, pack);
+    let pack_read = files::read_path(console, pack_name, pack);
     if let FileRead::Failed(_) = pack_read {
-        return tell_unread(rt, pack_name);
+        return tell_unread(console, pack_name);
     }
-    let certificate_read = files::read_path(rt, certificate_name, certificate);
+    let certificate_read = files::read_path(console, certificate_name, certificate);
     if let FileRead::Failed(_) = certificate_read {
-        return tell_unread(rt, certificate_name);
+        return tell_unread(console, certificate_name);
     }
     let n = files::held(pack_read, pack);
     let m = files::held(certificate_read, certificate);
     tell_checked(
-        rt,
+        console,
         pack_name,
         teldyzhom::check_certificate(&pack[..n], &certificate[..m]),
     )
@@ -177,28 +189,28 @@ fn check_pair(
 
 // Checks the pair that arguments `at` and the next one name. A name that is too long leaves its start, which no file can be called
 // either.
-fn check_arguments(rt: &HostRuntime, at: usize, pack: &mut [u8], certificate: &mut [u8]) -> Told
+fn check_arguments(console: &Console, at: usize, pack: &mut [u8], certificate: &mut [u8]) -> Told
     requires { at + 1 ≤ greatest }
     ensures { Answered result }
 {
     let mut pack_name = [0u8; PATH_MAX];
-    let n = match files::argument(rt, at, &mut pack_name) {
+    let n = match files::argument(console, at, &mut pack_name) {
         Ok(n) => n,
         Err(error) => {
-            names::fail(rt, &pack_name, error);
-            return tell_unread(rt, &pack_name);
+            names::fail(console, &pack_name, error);
+            return tell_unread(console, &pack_name);
         }
     };
     let mut certificate_name = [0u8; PATH_MAX];
-    let m = match files::argument(rt, at + 1, &mut certificate_name) {
+    let m = match files::argument(console, at + 1, &mut certificate_name) {
         Ok(m) => m,
         Err(error) => {
-            names::fail(rt, &certificate_name, error);
-            return tell_unread(rt, &certificate_name);
+            names::fail(console, &certificate_name, error);
+            return tell_unread(console, &certificate_name);
         }
     };
     check_pair(
-        rt,
+        console,
         &pack_name[..n],
         &certificate_name[..m],
         pack,
@@ -208,7 +220,7 @@ fn check_arguments(rt: &HostRuntime, at: usize, pack: &mut [u8], certificate: &m
 
 // Checks the pairs that the arguments from `first` on below `end` name.
 fn check_each(
-    rt: &HostRuntime,
+    console: &Console,
     first: usize,
     end: usize,
     pack: &mut [u8],
@@ -224,48 +236,51 @@ fn check_each(
     };
     let mut at = first;
     while 1 < end - at {
-        let told = check_arguments(rt, at, pack, certificate);
+        let told = check_arguments(console, at, pack, certificate);
         if let Told::Lost = told {
             return Run::Broken;
         }
         t = counted(t, told);
-        printing::lines::progress(rt, all(t));
+        printing::lines::progress(console, all(t));
         at += 2;
     }
     Run::Whole(t)
 }
 
 // The end of a run over arguments.
-fn conclude_run(rt: &HostRuntime, run: Run) -> Ended
+fn conclude_run(console: &Console, run: Run) -> Ended
     ensures { RunEnds run result }
 {
     match run {
-        Run::Whole(t) => conclude(rt, t),
+        Run::Whole(t) => conclude(console, t),
         Run::Broken => Ended::Unjudged,
     }
 }
 
 // Checks the pairs of files that the arguments from `first` on below `end` name.
-pub fn check_named(rt: &HostRuntime, first: usize, end: usize) -> Ended
+pub fn check_named(console: &Console, first: usize, end: usize) -> Ended
     requires { first ≤ end }
 {
     let mut pack = [0u8; PACK_ROOM];
     let mut certificate = [0u8; CERTIFICATE_ROOM];
-    conclude_run(rt, check_each(rt, first, end, &mut pack, &mut certificate))
+    conclude_run(
+        console,
+        check_each(console, first, end, &mut pack, &mut certificate),
+    )
 }
 
 // Tells why the line of that number of that list names no pair.
-fn tell_line(rt: &HostRuntime, list: &[u8], number: u64, line: &[u8], why: &[u8]) -> Told
+fn tell_line(console: &Console, list: &[u8], number: u64, line: &[u8], why: &[u8]) -> Told
     ensures { Answered result }
 {
-    printing::lines::bad_line(rt, list, number, why);
-    tell_unread(rt, line)
+    printing::lines::bad_line(console, list, number, why);
+    tell_unread(console, line)
 }
 
 // Checks the pair that a line names.
 #[tactic(auto, unfolding(lists::specs::Lists::Splits))]
 fn check_line(
-    rt: &HostRuntime,
+    console: &Console,
     list: &[u8],
     number: u64,
     line: &[u8],
@@ -276,19 +291,19 @@ fn check_line(
 {
     let Tabs::One(k) = lists::only_tab(line) else {
         return tell_line(
-            rt,
+            console,
             list,
             number,
             line,
             b": Not a pack, a tab and a certificate\n",
         );
     };
-    check_pair(rt, &line[..k], &line[k + 1..], pack, certificate)
+    check_pair(console, &line[..k], &line[k + 1..], pack, certificate)
 }
 
 // Checks the pair that a last line without its end names. Editors leave a line so; where a byte 0 ends lines, the list was cut.
 fn check_unended(
-    rt: &HostRuntime,
+    console: &Console,
     ends: u8,
     list: &[u8],
     number: u64,
@@ -299,14 +314,14 @@ fn check_unended(
     ensures { Answered result }
 {
     if ends == lists::ZERO {
-        return tell_line(rt, list, number, line, b": Line without its end\n");
+        return tell_line(console, list, number, line, b": Line without its end\n");
     }
-    check_line(rt, list, number, line, pack, certificate)
+    check_line(console, list, number, line, pack, certificate)
 }
 
 // Checks what was taken from a list. Of a line that is too long only the first part is told of.
 fn check_taken(
-    rt: &HostRuntime,
+    console: &Console,
     taken: Taken,
     begun: bool,
     ends: u8,
@@ -322,9 +337,9 @@ fn check_taken(
         return Told::Nothing;
     }
     match taken {
-        Taken::Line => check_line(rt, list, number, line, pack, certificate),
-        Taken::Unended => check_unended(rt, ends, list, number, line, pack, certificate),
-        Taken::Part => tell_line(rt, list, number, line, b": Line too long\n"),
+        Taken::Line => check_line(console, list, number, line, pack, certificate),
+        Taken::Unended => check_unended(console, ends, list, number, line, pack, certificate),
+        Taken::Part => tell_line(console, list, number, line, b": Line too long\n"),
         Taken::End => Told::Nothing,
         Taken::Failed(_) => Told::Nothing,
     }
@@ -338,38 +353,38 @@ fn is_part(taken: Taken) -> bool {
 }
 
 // The end of a run over the list of that name: one without a pair has judged nothing, and has no counts.
-fn conclude_list(rt: &HostRuntime, t: Tally, name: &[u8]) -> Ended
+fn conclude_list(console: &Console, t: Tally, name: &[u8]) -> Ended
     requires { total t ≤ greatest }
     ensures { Concluded t result }
 {
     if all(t) == 0 {
-        let _ = names::write_line(&rt.stderr(), name, b": No pair of files in this list\n");
+        names::say_line(console, name, b": No pair of files in this list\n");
         return Ended::Unjudged;
     }
-    conclude(rt, t)
+    conclude(console, t)
 }
 
 // The end of a run over a list that could not be read to its end: where lines were told, it is told and counted beside them, so that
 // they do not look whole.
-fn break_off(rt: &HostRuntime, t: Tally, name: &[u8], error: io::Error) -> Ended
+fn break_off(console: &Console, t: Tally, name: &[u8], error: io::Error) -> Ended
     requires { total t < greatest }
     ensures { result ≡ Unjudged }
 {
-    names::fail(rt, name, error);
+    names::fail(console, name, error);
     if all(t) == 0 {
         return Ended::Unjudged;
     }
-    let told = tell_unread(rt, name);
+    let told = tell_unread(console, name);
     if let Told::Lost = told {
         return Ended::Unjudged;
     }
-    conclude(rt, counted(t, told));
+    conclude(console, counted(t, told));
     Ended::Unjudged
 }
 
 // Checks the pairs that the list's lines name, a list of that name whose lines end in that byte.
 fn check_lines<R: Read>(
-    rt: &HostRuntime,
+    console: &Console,
     list: &mut R,
     ends: u8,
     name: &[u8],
@@ -391,15 +406,15 @@ fn check_lines<R: Read>(
         let next = lists::take_line(list, ends, window, from, to, line);
         let what = next.taken;
         if let Taken::End = what {
-            return conclude_list(rt, t, name);
+            return conclude_list(console, t, name);
         }
         if let Taken::Failed(error) = what {
-            return break_off(rt, t, name, error);
+            return break_off(console, t, name, error);
         }
         let bytes = next.bytes;
         let number = all(t) + 1;
         let told = check_taken(
-            rt,
+            console,
             what,
             begun,
             ends,
@@ -414,24 +429,24 @@ fn check_lines<R: Read>(
         }
         t = counted(t, told);
         if !begun {
-            printing::lines::progress(rt, all(t));
+            printing::lines::progress(console, all(t));
         }
         begun = is_part(what);
         from = next.from;
         to = next.to;
         taken += 1;
     }
-    let _ = names::write_line(&rt.stderr(), name, b": Too many lines\n");
+    names::say_line(console, name, b": Too many lines\n");
     Ended::Unjudged
 }
 
-fn check_open<R: Read>(rt: &HostRuntime, list: &mut R, ends: u8, name: &[u8]) -> Ended {
+fn check_open<R: Read>(console: &Console, list: &mut R, ends: u8, name: &[u8]) -> Ended {
     let mut window = [0u8; WINDOW_ROOM];
     let mut line = [0u8; LINE_ROOM];
     let mut pack = [0u8; PACK_ROOM];
     let mut certificate = [0u8; CERTIFICATE_ROOM];
     check_lines(
-        rt,
+        console,
         list,
         ends,
         name,
@@ -443,30 +458,30 @@ fn check_open<R: Read>(rt: &HostRuntime, list: &mut R, ends: u8, name: &[u8]) ->
 }
 
 // Checks the pairs that the list of that name names; its lines end in that byte.
-fn check_path(rt: &HostRuntime, name: &[u8], ends: u8) -> Ended {
-    match files::open_path(rt, name) {
+fn check_path(console: &Console, name: &[u8], ends: u8) -> Ended {
+    match files::open_path(console, name) {
         Ok(file) => {
             let mut list = file;
-            check_open(rt, &mut list, ends, name)
+            check_open(console, &mut list, ends, name)
         }
         Err(error) => {
-            names::fail(rt, name, error);
+            names::fail(console, name, error);
             Ended::Unjudged
         }
     }
 }
 
 // Checks the pairs that the list names whose name is argument `at`, `-` for standard input; its lines end in that byte.
-pub fn check_list(rt: &HostRuntime, at: usize, ends: u8) -> Ended {
-    if files::is_input(rt, at) {
-        let mut input = rt.stdin();
-        return check_open(rt, &mut input, ends, b"standard input");
+pub fn check_list(console: &Console, at: usize, ends: u8) -> Ended {
+    if files::is_input(console, at) {
+        let mut input = console.rt.stdin();
+        return check_open(console, &mut input, ends, b"standard input");
     }
     let mut name = [0u8; PATH_MAX];
-    match files::argument(rt, at, &mut name) {
-        Ok(n) => check_path(rt, &name[..n], ends),
+    match files::argument(console, at, &mut name) {
+        Ok(n) => check_path(console, &name[..n], ends),
         Err(error) => {
-            names::fail(rt, &name, error);
+            names::fail(console, &name, error);
             Ended::Unjudged
         }
     }
