@@ -1,3 +1,2 @@
--- What the entering of the entries comes to, record by record, and a `&mut` slice that is lent again for a call.
+-- What the entering of the entries comes to, record by record.
 pub mod Entering
-pub mod Again

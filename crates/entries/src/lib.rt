@@ -8,7 +8,7 @@ ghost use Rattle.entries.specs.Entries.{numbered, entry, with_entry, Keeps, tell
 use records::MOST_PAIRS;
 
 // The weighting is 0 until it is told. No byte is left between the fields, so that all entries are cleared at once.
-#[derive(Drop)]
+#[derive(Clone, Copy)]
 pub struct Entry {
     pub rule: u8,
     pub place: u8,

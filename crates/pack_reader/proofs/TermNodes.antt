@@ -82,7 +82,7 @@ module _ (p : System) where
       by_test (node_kind r.kind)
       (λ h.
       let next = inside_next i (kind_of r.kind) (suc (length rs)) (omega arith) (m ∙ h) in
-      rw (m, h, ← (nodes_from next rs))
+      rw (m, h, ← (nodes_from {b = index r.kind} next rs))
       (one_node (node_zeros r) (node_in_range p.arities variable_count r) (node_of r) (node_steps (length p.arities) (index r.kind) (length rs) rs)))
       (λ h. rw (m, h))
 

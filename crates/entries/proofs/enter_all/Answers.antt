@@ -1,0 +1,43 @@
+-- `entries::enter_all` meets its contract. The loop's invariant: the entries have the pairs of the records passed.
+use Rattle.std.proofs.Common.{◌≡◌, ◌∙◌, ℕ, ◌/◌, ◌≤◌, ◌<◌, List, length}
+use native.Mathlib.Omega.{arith}
+use Rattle.entries.specs.declared.Entry.{Entry}
+use Rattle.entries.proofs.Entering.{SoFar, Turn, start, ends, next_few, next_fewer, next_so_far}
+use Rattle.entries.proofs.enter_all.Goals as goal
+
+-- the loop's state as a turn
+abbrev turn : (bs : List ℕ) (i number count : ℕ) (es : List Entry) →
+    (i ≤ length bs / 8) × (number ≤ i) × (count ≤ i) × (length es ≡ 2048) × SoFar bs i number count es → Turn bs
+turn bs i number count es (within, few, fewer, long, so_far) = record {
+  i = i;
+  number = number;
+  count = count;
+  entries = es;
+  within = within;
+  few = few;
+  fewer = fewer;
+  long = long;
+  so_far = so_far;
+}
+
+pub loop-i-init : goal.loop-i-init
+loop-i-init c = (omega arith, omega arith, omega arith, c.requires.2, (start c.args.certificate.now c.args.entries.now c.requires.2).so_far)
+
+pub loop-i-preserved : goal.loop-i-preserved
+loop-i-preserved c =
+    let bs = c.args.certificate.now in
+    let t = turn bs _ _ _ _ c.loop-i.invariant in
+    let more : t.i < length bs / 8 = c.loop-i-test.true in
+    let is_w = c.word_at-word.ensures in
+    let is_m = c.numbered-number.ensures in
+    let is_c = c.counted-count.ensures in
+    (
+      omega arith,
+      next_few bs t more _ is_m,
+      next_fewer bs t more is_w is_m c.place_of-at.ensures c.entry_of-entry.ensures c.enter.ensures is_c,
+      c.enter.auto.entries ∙ c.loop-i.invariant.3,
+      next_so_far bs t more is_w is_m c.place_of-at.ensures c.entry_of-entry.ensures c.enter.ensures is_c,
+    )
+
+pub returns : goal.returns
+returns c = let bs = c.args.certificate.now in ends bs (turn bs _ _ _ _ c.loop-i.invariant) c.loop-i-test.false

@@ -1,0 +1,196 @@
+-- `pack_reader::nodes::read_nodes` meets its contract. The loop's invariant: some nodes were read and are kept, and the steps of
+-- the records left, with these nodes before, are the steps of all.
+use mathlib.Core.Path.{◌≡◌, refl, sym, ap, subst, ◌∙◌}
+use mathlib.Core.Bool.{true, false}
+use mathlib.Core.List.{List, [], ◌∷◌, ◌++◌, append-nil}
+use Prim.Native.Nat.{ℕ, suc, ◌+◌, ◌*◌, ◌-◌, ◌/◌, ◌≤◌, ◌<◌}
+use native.Mathlib.Omega.{arith}
+use native.Mathlib.Nat.{add-zero, sub-zero}
+use native.Mathlib.Numerals.{add-one}
+use borrow.Author.Rules.{rules}
+use lib.ListN.{length, take, drop, set, length-set, length-drop, length-append, drop_of_length-le}
+use lib.Seq.{drop-set-add, take-suc-set, take-set-le}
+use Rattle.records.specs.declared.Record.{Record}
+use Rattle.records.specs.declared.Answer.{Answer}
+use Rattle.records.specs.declared.Answer.TheVariants.{Passed}
+use Rattle.records.specs.declared.Wanted.TheVariants.{Found, Stray}
+use Rattle.records.specs.Answers.{answer_outcome}
+use Rattle.records.specs.Outcomes.{Outcome, refused, passed, after}
+use Rattle.records.specs.Records.{record_at, all_records}
+use Rattle.records.specs.Order.{index, may_follow}
+use Rattle.records.specs.Wanted.{wanted_at}
+use Rattle.records.proofs.Bytes.{drop_records, length_of_records}
+use Rattle.records.proofs.Outcomes.{not_passed, passed_same}
+use Rattle.records.proofs.Table.{kind_of}
+use Rattle.terms.specs.Sides.{Node}
+use Rattle.terms.specs.Kept.{code, codes, Kept}
+use Rattle.packs.proofs.Places.{Inside, at_rule, inside_row, inside_next}
+use Rattle.pack_reader.specs.Stored.{Run, node_outcome, coded, more_run, node_steps, SameBefore, NodesRead}
+use Rattle.pack_reader.proofs.Wanted.{found_at, stray_at}
+use Rattle.pack_reader.proofs.NodeSteps.{Small, outcome_small, code_small, code_row, outcome_row, coded_passed, coded_refused, codes_append, steps_stray, steps_refused, steps_read, steps_end, with_nodes, with_none, with_more}
+use Rattle.pack_reader.proofs.nodes.read_nodes.Invariants.{SoFar, steps_left}
+use Rattle.pack_reader.proofs.nodes.read_nodes.Goals as goal
+
+-- the j-th record is a node: its byte, the row of its kind, and the steps after it
+record NodeRead (pack : List ℕ) (from count symbols last j next byte : ℕ) : Type 0 where
+  node : Node
+  byte_is : byte ≡ code node
+  small : Small symbols node
+  inside : Inside next
+  then : steps_left pack from count symbols last j ≡ after (steps_left pack from count symbols next (j + 1)) (λ y. more_run node y)
+
+-- ONE TURN, by what stands at the j-th record
+module _ (pack : List ℕ) (from count symbols last j : ℕ) (h : j < count) where
+  none_stands : length pack / 8 ≤ from + j → steps_left pack from count symbols last j ≡ refused 2
+  none_stands k =
+      rw (drop_of_length-le (all_records pack) {i = from + j} (omega (arith, length_of_records pack))) (steps_end symbols last (count - j) (omega arith))
+
+  module _ (k : from + j < length pack / 8) where
+    there : drop (from + j) (all_records pack) ≡ record_at pack (8 * (from + j)) ∷ drop (from + (j + 1)) (all_records pack)
+    there =
+        let e : suc (from + j) ≡ from + (j + 1) = omega arith in
+        drop_records pack (from + j) k ∙ rw e
+
+    stray : wanted_at pack (8 * (from + j)) last (count - j) false ≡ Stray → steps_left pack from count symbols last j ≡ refused 2
+    stray w = rw there (steps_stray symbols last _ _ (count - j) (omega arith) (stray_at pack (8 * (from + j)) last (count - j) false w))
+
+    module _ {r : Record} (w : wanted_at pack (8 * (from + j)) last (count - j) false ≡ Found r) where
+      stands : (may_follow last (index r.kind) (count - j) false ≡ true) × (record_at pack (8 * (from + j)) ≡ r)
+      stands = let f = found_at pack (8 * (from + j)) last (count - j) false w in (rw f.1 f.0, sym f.1)
+
+      node_refused : {m : ℕ} → refused m ≡ coded (node_outcome symbols r) → steps_left pack from count symbols last j ≡ refused m
+      node_refused e = rw (there, stands.1) (steps_refused symbols last r _ (count - j) _ (omega arith) stands.0 (coded_refused _ e))
+
+      node_read : {b : ℕ} → Inside last → symbols ≤ 64 → passed b ≡ coded (node_outcome symbols r)
+          → NodeRead pack from count symbols last j (3 + b / 64) b
+      node_read {b} i few e =
+          let x = coded_passed (node_outcome symbols r) e in
+          let s = outcome_small symbols r x.0 x.1 in
+          let d : count - j ≡ suc (count - (j + 1)) = omega arith in
+          let its = outcome_row symbols r x.0 (count - j) i (omega arith) stands.0 x.1 in
+          let row : 3 + b / 64 ≡ index r.kind = ap (λ (c : ℕ). 3 + c / 64) x.2 ∙ code_row symbols x.0 few s ∙ sym its in
+          record {
+            node = x.0;
+            byte_is = x.2;
+            small = s;
+            inside = rw row (inside_next i (kind_of r.kind) (count - j) (omega arith) stands.0);
+            then =
+                rw (row, there, stands.1, d) (steps_read symbols last r _ (count - (j + 1)) x.0 (rw d at stands.0) x.1);
+          }
+
+module _ (pack : List ℕ) (from count symbols base : ℕ) (before : List ℕ) where
+  start : SoFar pack from count symbols base before before 2 0
+  unfolding codes
+  start = record { read = []; many = refl; goes_on = rw (sub-zero count, add-zero from) (with_none _); untouched = record { long = refl; same = refl }; kept = refl }
+
+  module _ (now : List ℕ) (last j : ℕ) (s : SoFar pack from count symbols base before now last j) where
+    -- a refusal met here is the answer
+    refuses : {m : ℕ} (x : Answer) → answer_outcome x ≡ refused m → steps_left pack from count symbols last j ≡ refused m
+        → NodesRead (node_steps symbols 2 count (drop from (all_records pack))) x base before now
+    refuses {m} x a e =
+        let all : node_steps symbols 2 count (drop from (all_records pack)) ≡ refused m = sym s.goes_on ∙ rw e in
+        record { answers = rw all a; untouched = s.untouched; kept = λ y p. not_passed (sym all ∙ p) }
+
+    -- all nodes are read
+    ends : j ≤ count → count ≤ j → base + count ≤ length now
+        → NodesRead (node_steps symbols 2 count (drop from (all_records pack))) (Passed last) base before now
+    unfolding node_steps with_nodes
+    ends h k fits =
+        let z : count - j ≡ 0 = omega arith in
+        let all : node_steps symbols 2 count (drop from (all_records pack)) ≡ passed (record { nodes = s.read; last = last }) =
+        sym s.goes_on ∙ rw (z, append-nil s.read) in
+        record {
+          answers = rw all;
+          untouched = s.untouched;
+          kept = λ y p. subst (λ (u : Run). Kept now base u.nodes) (passed_same (sym all ∙ p)) (record { within = omega (arith, s.many); are = rw s.many s.kept });
+        }
+
+    -- one node more
+    more : {next b : ℕ} → NodeRead pack from count symbols last j next b → base + j < length now
+        → SoFar pack from count symbols base before (set now (base + j) b) next (j + 1)
+    unfolding codes
+    more {next} {b} n fits =
+        let l : j < length (drop base now) = simp length-drop (omega arith) in
+        record {
+          read = s.read ++ (n.node ∷ []);
+          many = length-append s.read (n.node ∷ []) ∙ omega (arith, s.many);
+          goes_on = sym (with_more s.read n.node (steps_left pack from count symbols next (j + 1))) ∙ ap (λ (o : Outcome Run). after o (with_nodes s.read)) (sym n.then) ∙ s.goes_on;
+          untouched = record { long = length-set now (base + j) b ∙ s.untouched.long; same = take-set-le base now (base + j) b (omega arith) ∙ s.untouched.same };
+          kept = rw (drop-set-add base now j b, add-one j, take-suc-set (drop base now) j b l, codes_append s.read, s.kept, n.byte_is);
+        }
+
+pub loop-j-init : goal.loop-j-init
+loop-j-init c = (omega arith, at_rule, start _ _ _ _ _ _)
+
+pub returns-then-n-from : goal.returns-then-n-from
+returns-then-n-from c =
+    let l = c.loop-j in
+    refuses _ _ _ _ _ _ _ l.last l.j l.invariant.2 _ refl (none_stands _ _ _ _ l.last l.j c.loop-j-test.true c.if-n-from.true)
+
+pub read_wanted-requires : goal.read_wanted-requires
+read_wanted-requires c = omega (arith, inside_row c.loop-j.invariant.1)
+
+pub returns-in_default : goal.returns-in_default
+returns-in_default c =
+    let strayed : let l = c.loop-j in
+    let a = c.args in
+    wanted_at a.pack.now (8 * (a.from + l.j)) l.last (a.count - l.j) false ≡ Stray = sym c.read_wanted.ensures ∙ c.in_default.is in
+    let l = c.loop-j in
+    refuses _ _ _ _ _ _ _ l.last l.j l.invariant.2 _ refl (stray _ _ _ _ l.last l.j c.loop-j-test.true c.if-n-from.false strayed)
+
+pub returns-in-Refused : goal.returns-in-Refused
+returns-in-Refused c =
+    let found : let l = c.loop-j in
+    let a = c.args in
+    wanted_at a.pack.now (8 * (a.from + l.j)) l.last (a.count - l.j) false ≡ Found c.in-Found.r = sym c.read_wanted.ensures ∙ c.in-Found.is in
+    let l = c.loop-j in
+    refuses _ _ _ _ _ _ _ l.last l.j l.invariant.2 _ refl
+    (node_refused _ _ _ _ l.last l.j c.loop-j-test.true c.if-n-from.false found
+    (sym (ap answer_outcome c.in-Refused.is) ∙ c.node_code.ensures))
+
+pub overflow_cast-nodes : goal.overflow_cast-nodes
+overflow_cast-nodes c =
+    let found : let l = c.loop-j in
+    let a = c.args in
+    wanted_at a.pack.now (8 * (a.from + l.j)) l.last (a.count - l.j) false ≡ Found c.in-Found.r = sym c.read_wanted.ensures ∙ c.in-Found.is in
+    let read : let l = c.loop-j in
+    let a = c.args in
+    let b = c.in-Passed.code in
+    NodeRead a.pack.now a.from a.count a.symbols l.last l.j (3 + b / 64) b = let l = c.loop-j in
+    node_read _ _ _ _ l.last l.j c.loop-j-test.true c.if-n-from.false found l.invariant.1 (omega arith)
+    (sym (ap answer_outcome c.in-Passed.is) ∙ c.node_code.ensures) in
+    let n = read in omega (arith, n.byte_is, code_small _ n.node (omega arith) n.small)
+
+pub overflow_add-last : goal.overflow_add-last
+overflow_add-last c =
+    let found : let l = c.loop-j in
+    let a = c.args in
+    wanted_at a.pack.now (8 * (a.from + l.j)) l.last (a.count - l.j) false ≡ Found c.in-Found.r = sym c.read_wanted.ensures ∙ c.in-Found.is in
+    let read : let l = c.loop-j in
+    let a = c.args in
+    let b = c.in-Passed.code in
+    NodeRead a.pack.now a.from a.count a.symbols l.last l.j (3 + b / 64) b = let l = c.loop-j in
+    node_read _ _ _ _ l.last l.j c.loop-j-test.true c.if-n-from.false found l.invariant.1 (omega arith)
+    (sym (ap answer_outcome c.in-Passed.is) ∙ c.node_code.ensures) in
+    let n = read in omega (arith, n.byte_is, code_small _ n.node (omega arith) n.small)
+
+pub loop-j-preserved : goal.loop-j-preserved
+loop-j-preserved c =
+    let found : let l = c.loop-j in
+    let a = c.args in
+    wanted_at a.pack.now (8 * (a.from + l.j)) l.last (a.count - l.j) false ≡ Found c.in-Found.r = sym c.read_wanted.ensures ∙ c.in-Found.is in
+    let read : let l = c.loop-j in
+    let a = c.args in
+    let b = c.in-Passed.code in
+    NodeRead a.pack.now a.from a.count a.symbols l.last l.j (3 + b / 64) b = let l = c.loop-j in
+    node_read _ _ _ _ l.last l.j c.loop-j-test.true c.if-n-from.false found l.invariant.1 (omega arith)
+    (sym (ap answer_outcome c.in-Passed.is) ∙ c.node_code.ensures) in
+    let l = c.loop-j in
+    let n = read in
+    let step = more _ _ _ _ _ _ l.nodes l.last l.j l.invariant.2 n (omega arith) in
+    (omega arith, n.inside, step)
+
+pub returns : goal.returns
+returns c =
+    let l = c.loop-j in
+    ends _ _ _ _ _ _ l.nodes l.last l.j l.invariant.2 l.invariant.0 c.loop-j-test.false (omega arith)

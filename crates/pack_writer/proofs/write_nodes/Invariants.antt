@@ -1,0 +1,22 @@
+-- `pack_writer::write_nodes` meets its contract. The loop's invariant: the records of the nodes before i are written.
+use mathlib.Core.Path.{◌≡◌, refl, ◌∙◌}
+use mathlib.Core.List.{List, ◌++◌, map, map-append}
+use Prim.Native.Nat.{ℕ, ◌+◌, ◌*◌, ◌-◌, ◌≤◌, ◌<◌}
+use native.Mathlib.Omega.{arith}
+use borrow.Author.Rules.{rules}
+use lib.ListN.{length, get_or, take, drop}
+use Rattle.records.specs.declared.Record.{Record}
+use Rattle.records.specs.Records.{record_bytes}
+use Rattle.terms.specs.Kept.{part}
+use Rattle.terms.proofs.Parts.{part_none}
+use Rattle.pack_writer.specs.Writing.{byte_record, RecordsWritten}
+use Rattle.pack_writer.proofs.InBuffer.{written_none, written_more}
+use Rattle.pack_writer.proofs.FromArrays.{part_last}
+use Rattle.pack_writer.proofs.write_nodes.Given as goal
+
+abbrev pub invariant-loop-i : goal.invariant-loop-i
+invariant-loop-i l =
+    (l.from ≤ l.i) × (l.i ≤ l.to) × (length l.out ≡ length l.initial.out) × (l.next ≡ l.at + 8 * (l.i - l.from)) × RecordsWritten l.at (map byte_record (part l.nodes l.from l.i)) l.next l.initial.out l.out
+
+abbrev pub decreases-loop-i : goal.decreases-loop-i
+decreases-loop-i l = l.to - l.i

@@ -1,0 +1,20 @@
+-- `pair_finder::arcs::next_meeting` meets its contract. The loop's invariant: all that is met is met in what is still to be walked.
+use mathlib.Core.Path.{refl, sym, ◌∙◌}
+use Prim.Native.Nat.{◌-◌, ◌≤◌}
+use native.Mathlib.Omega.{arith}
+use Rattle.terms.specs.Kept.{TermAt}
+use Rattle.pairs.specs.Arcs.{meetings}
+use Rattle.pair_finder.specs.Walking.{Reaching}
+use Rattle.pair_finder.proofs.Kept.{term_within, term_passed}
+use Rattle.pair_finder.proofs.Walks.{ToWalk, at_hand, first_there, other_there}
+use Rattle.pair_finder.proofs.Gathering.{Met, gather_skips, gather_enters, walk_comes}
+use Rattle.pair_finder.proofs.arcs.next_meeting.Given as goal
+
+abbrev pub invariant-loop-i : goal.invariant-loop-i
+invariant-loop-i l =
+    (l.u ≤ l.i)
+    × ((w : Reaching l.arities l.defined l.nodes l.u l.end l.v) →
+    ToWalk w.walk.system l.arities l.defined l.nodes l.nodes l.end (Met w.walk.system (meetings w.walk.system w.walk.first w.walk.other)) l.i l.k)
+
+abbrev pub decreases-loop-i : goal.decreases-loop-i
+decreases-loop-i l = l.end - l.i

@@ -1,0 +1,20 @@
+-- `pair_finder::listing::count_in` meets its contract. The loop's invariant: what is counted and the places left are as many as the
+-- places of the whole side.
+use mathlib.Core.Path.{◌≡◌, sym, ap, ◌∙◌}
+use mathlib.Core.Logic.{⊎_elim}
+use Prim.Native.Nat.{◌+◌, ◌-◌, ◌≤◌}
+use native.Mathlib.Nat.{zero-add}
+use native.Mathlib.Omega.{arith}
+use borrow.Author.Rules.{rules}
+use lib.ListN.{length}
+use Rattle.terms.specs.Kept.{part}
+use Rattle.pair_finder.specs.Walking.{is_defined, places}
+use Rattle.pair_finder.proofs.DefinedPlaces.{places_left, none_left, defined_left, undefined_left, all_left}
+use Rattle.pair_finder.proofs.listing.count_in.Given as goal
+
+abbrev pub invariant-loop-i : goal.invariant-loop-i
+invariant-loop-i l =
+    (l.from ≤ l.i) × (l.i ≤ l.to) × (l.n ≤ l.i - l.from) × (l.n + length (places_left l.defined l.nodes l.from l.i l.to) ≡ length (places l.defined 0 (part l.nodes l.from l.to)))
+
+abbrev pub decreases-loop-i : goal.decreases-loop-i
+decreases-loop-i l = l.to - l.i

@@ -1,0 +1,18 @@
+-- `pair_finder::listing::write_pairs` meets its contract. The loop's invariant: the records of the first i rules' pairs are written.
+use mathlib.Core.Path.{◌≡◌, refl, ◌∙◌}
+use mathlib.Core.List.{List}
+use Prim.Native.Nat.{ℕ, ◌+◌, ◌*◌, ◌-◌, ◌≤◌, ◌<◌}
+use native.Mathlib.Nat.{zero-add}
+use native.Mathlib.Omega.{arith}
+use lib.ListN.{length}
+use Rattle.pair_finder.specs.Walking.{rule_pairs, first_pairs, Written}
+use Rattle.pair_finder.proofs.DefinedPlaces.{rule_pairs_long, first_more, first_more_long, first_fewer}
+use Rattle.pair_finder.proofs.Written.{written_none, written_then}
+use Rattle.pair_finder.proofs.listing.write_pairs.Given as goal
+
+abbrev pub invariant-loop-i : goal.invariant-loop-i
+invariant-loop-i l =
+    (l.i ≤ l.rules) × (length l.list ≡ length l.initial.list) × Written 0 (first_pairs l.starts l.nodes l.defined l.i) l.at l.initial.list l.list
+
+abbrev pub decreases-loop-i : goal.decreases-loop-i
+decreases-loop-i l = l.rules - l.i

@@ -1,0 +1,6 @@
+-- `weights::table::put` meets its contract.
+use borrow.Author.Rules.{rules}
+use Rattle.weights.proofs.table.put.Goals as goal
+
+pub returns : goal.returns
+returns c = rw c.row_of.ensures
