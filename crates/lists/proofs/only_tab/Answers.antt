@@ -12,7 +12,8 @@ pub returns-then-find_tab-line : goal.returns-then-find_tab-line
 unfolding Splits
 returns-then-find_tab-line c =
     let found : c.find_tab-k.result < length c.args.line.now = omega arith in
-    second_tab _ _ _ c.find_tab-k.ensures found c.find_tab.ensures c.if-find_tab-line.true
+    let another : c.find_tab.result < length c.args.line.now = omega arith in
+    second_tab _ _ _ c.find_tab-k.ensures found c.find_tab.ensures another
 
 pub returns-then-k-eq0 : goal.returns-then-k-eq0
 unfolding Splits
