@@ -5,7 +5,7 @@ mod write;
 ghost use Rattle.std.specs.Prelude.{◌≡◌, min, length};
 ghost use Rattle.std.specs.Io.{ReadsAtMost};
 ghost use Rattle.names.specs.Counts.{IsPrefixLen};
-ghost use Rattle.files.specs.Read.{bytes_read};
+ghost use Rattle.files.specs.Read.{bytes_read, TakesAll, TakesOnce};
 
 use names::{Console, PATH_MAX};
 use std::env::FillError;
@@ -43,7 +43,8 @@ pub fn held(r: FileRead, buf: &[u8]) -> usize
 
 // One read to the start of part; 0 bytes are the end of the input.
 pub fn read_once<R: Read>(from: &mut R, part: &mut [u8]) -> FileRead
-    ensures { IsPrefixLen (bytes_read result) part.new }
+    ensures fits { IsPrefixLen (bytes_read result) part.new }
+    ensures takes { TakesOnce (R.remaining from.old) (R.remaining from.new) result part.new }
 {
     match from.read(part) {
         Ok(n) => FileRead::Bytes(n),
@@ -53,7 +54,8 @@ pub fn read_once<R: Read>(from: &mut R, part: &mut [u8]) -> FileRead
 
 // Reads until buf is full or the input ends. A read that fails is no end, whatever came before it.
 pub fn read_open<R: Read>(from: &mut R, buf: &mut [u8]) -> FileRead
-    ensures { IsPrefixLen (bytes_read result) buf.new }
+    ensures fits { IsPrefixLen (bytes_read result) buf.new }
+    ensures takes { TakesAll (R.remaining from.old) (R.remaining from.new) result buf.new }
 {
     let mut done = 0;
     while done < buf.len() {
