@@ -15,7 +15,7 @@ use teldyzhom::Checked;
 
 // A refusal's number and 0, or 0 and a value.
 #[repr(C)]
-#[derive(Drop)]
+#[derive(Clone, Copy)]
 pub struct Reply {
     pub number: u32,
     pub value: u32,
