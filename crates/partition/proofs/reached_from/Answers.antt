@@ -38,7 +38,7 @@ returns-then-reaches_to c =
       later = l.invariant.0;
       none_between = l.invariant.2 a;
       reached = λ _. (
-        is_lower a.asked c.args.own l.s _ h c.wrapping_sub_u32.ensures c.ranges.own.fits c.if-wrapping_sub_u32-own.true,
+        is_lower a.asked c.args.own l.s _ h c.wrapping_sub_u32.ensures.value c.ranges.own.fits c.if-wrapping_sub_u32-own.true,
         sym (c.reaches_to.ensures (asked_of a.asked l.s h)) ∙ c.if-reaches_to.true,
       );
     }
@@ -55,8 +55,8 @@ loop-s-preserved c =
       λ a none.
           none_more a.asked own l.s (l.invariant.2 a none)
           (⊎_elim
-          (λ w. none_reached a.asked own l.s h (sym (w.1.ensures (asked_of a.asked l.s h)) ∙ w.2.left))
-          (λ w. no_lower a.asked own l.s _ h difference.ensures difference.type_inv w.left)
+          (λ w. none_reached a.asked own l.s h (sym (w.reaches_to.ensures (asked_of a.asked l.s h)) ∙ w.if-reaches_to.false))
+          (λ w. no_lower a.asked own l.s _ h difference.ensures.value difference.type_inv w.if-wrapping_sub_u32-own.false)
           c.if-wrapping_sub_u32-own.branch-raw),
     )
 
