@@ -9,7 +9,7 @@
  *     close   closes a descriptor that is open for writing alone, and fails with EIO
  *     fsync, rename, unlink, getentropy   fail with EIO
  *
- * Descriptors up to 3, the standard ones and the one for the status, are passed through.
+ * The standard descriptors, up to 2, are passed through.
  */
 #define _GNU_SOURCE
 #include <dlfcn.h>
@@ -40,7 +40,7 @@ ssize_t write(int descriptor, const void *buffer, size_t size)
 {
     static size_t left = 8;
     ssize_t put;
-    if (descriptor <= 3 || !hit("write"))
+    if (descriptor <= 2 || !hit("write"))
         return syscall(SYS_write, descriptor, buffer, size);
     if (left == 0)
         return fails(ENOSPC);
@@ -57,7 +57,7 @@ int fsync(int descriptor)
 
 int close(int descriptor)
 {
-    int failing = descriptor > 3 && (fcntl(descriptor, F_GETFL) & O_ACCMODE) == O_WRONLY && hit("close");
+    int failing = descriptor > 2 && (fcntl(descriptor, F_GETFL) & O_ACCMODE) == O_WRONLY && hit("close");
     int closed = (int)syscall(SYS_close, descriptor);
     return failing ? fails(EIO) : closed;
 }

@@ -1,4 +1,3 @@
--- Lemmas on the tabs of a line, on filling a window, and on taking lines from it.
+-- Lemmas on the tabs of a line, and on taking lines from a window.
 pub mod Tabbing
-pub mod Filling
 pub mod Taking

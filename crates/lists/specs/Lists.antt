@@ -1,6 +1,7 @@
 -- What is taken from a list of pairs of files, and how a line is split.
-use Rattle.std.specs.Prelude.{◌≡◌, Bool, true, false, List, ℕ, zero, suc, ◌+◌, ◌-◌, ◌≤◌, ◌<◌, length, get_or, take, drop}
-use Rattle.io.specs.Counts.{IsPrefixLen}
+use Rattle.std.specs.Prelude.{◌≡◌, Option, Some, None, List, ℕ, zero, suc, ◌+◌, ◌-◌, ◌≤◌, ◌<◌, length, get_or, take, drop}
+use Rattle.std.specs.declared.io.Error.{Error}
+use Rattle.names.specs.Counts.{IsPrefixLen}
 use Rattle.files.specs.declared.FileRead.{FileRead}
 use Rattle.files.specs.declared.FileRead.TheVariants.{Bytes, Failed as ReadFailed}
 use Rattle.lists.specs.declared.Next.{Next}
@@ -10,16 +11,16 @@ use Rattle.lists.specs.declared.Window.{Window}
 use Rattle.lists.specs.declared.Tabs.{Tabs}
 use Rattle.lists.specs.declared.Tabs.TheVariants.{One, Other}
 
--- the bytes that a window's start holds, and whether it could be read
-pub record Holds (n : ℕ) (failed : Bool) (w : Window) : Type 0 where
+-- the bytes that a window's start holds, and the error of a read that failed
+pub record Holds (n : ℕ) (failed : Option Error) (w : Window) : Type 0 where
   pub starts : w.from ≡ 0
   pub ends : w.to ≡ n
   pub fails : w.failed ≡ failed
 
 -- what was read stands at the window's start, all of it; a read that failed is no end of the list
 abbrev pub Filled : FileRead → Window → Type 0
-Filled (Bytes n) w = Holds n false w
-Filled ReadFailed w = Holds 0 true w
+Filled (Bytes n) w = Holds n None w
+Filled (ReadFailed error) w = Holds 0 (Some error) w
 
 -- where the bytes stand that are still to be taken: as before, and the window too, where some were left
 pub record Refilled (from to : ℕ) (before : List ℕ) (r : Window) (window : List ℕ) : Type 0 where
@@ -55,13 +56,13 @@ pub record Whole (window line : List ℕ) (at end k : ℕ) (r : Next) (after : L
   pub window_kept : after ≡ window
 
 -- what a list comes to where nothing is left of it: it could not be read, or ended after a line, or within one
-unfoldable pub at_end : (failed : Bool) (bytes : ℕ) → Taken
-at_end true n = Failed
-at_end false zero = End
-at_end false (suc n) = Unended
+unfoldable pub at_end : (failed : Option Error) (bytes : ℕ) → Taken
+at_end (Some error) n = Failed error
+at_end None zero = End
+at_end None (suc n) = Unended
 
 -- nothing is still to be taken
-pub record Emptied (failed : Bool) (bytes : ℕ) (r : Next) : Type 0 where
+pub record Emptied (failed : Option Error) (bytes : ℕ) (r : Next) : Type 0 where
   pub is : r.taken ≡ at_end failed bytes
   pub all : r.bytes ≡ bytes
   pub none : r.to ≡ 0

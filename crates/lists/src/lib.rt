@@ -5,6 +5,7 @@ ghost use Rattle.std.specs.Prelude.{ℕ, ◌-◌, ◌≤◌, ◌<◌, length};
 ghost use Rattle.lists.specs.Lists.{Emptied, EndsAt, Filled, First, Refilled, Splits, Stands, Whole};
 
 use files::FileRead;
+use std::io::{Error, Read};
 
 const TAB: u8 = 9;
 
@@ -13,14 +14,14 @@ pub const LINE_END: u8 = 10;
 pub const ZERO: u8 = 0;
 
 // What was taken from a list: a line, a last line without its end, the start or a part of one that is longer than the buffer,
-// nothing since the list has ended, or nothing since it could not be read.
-#[derive(Drop)]
+// nothing since the list has ended, or nothing since it could not be read, and why.
+#[derive(Clone, Copy)]
 pub enum Taken {
     Line,
     Unended,
     Part,
     End,
-    Failed,
+    Failed(Error),
 }
 
 // What was taken, how many bytes of it, and where the window's bytes stand that are still to be taken.
@@ -32,12 +33,12 @@ pub struct Next {
     pub to: usize,
 }
 
-// Where bytes stand in the window that are still to be taken: none of them where the list has ended or a read has failed.
+// Where bytes stand in the window that are still to be taken: none of them where the list has ended or a read has failed, with its error.
 #[derive(Drop)]
 struct Window {
     from: usize,
     to: usize,
-    failed: bool,
+    failed: Option<Error>,
 }
 
 // Where what was read stands.
@@ -48,39 +49,40 @@ fn filled(r: FileRead) -> Window
         FileRead::Bytes(n) => Window {
             from: 0,
             to: n,
-            failed: false,
+            failed: None,
         },
-        FileRead::Failed => Window {
+        FileRead::Failed(error) => Window {
             from: 0,
             to: 0,
-            failed: true,
+            failed: Some(error),
         },
     }
 }
 
 // Reads on where all of the window has been taken.
-fn refilled(fd: i32, window: &mut [u8], from: usize, to: usize) -> Window
+fn refilled<R: Read>(list: &mut R, window: &mut [u8], from: usize, to: usize) -> Window
     requires { to ≤ length window.old }
     ensures { Refilled from to window.old result window.new }
 {
     if from < to {
         return Window {
-            from: from,
-            to: to,
-            failed: false,
+            from,
+            to,
+            failed: None,
         };
     }
-    filled(files::read_once(fd, window))
+    filled(files::read_once(list, window))
 }
 
 // The list has ended after so many bytes of a line, or cannot be read.
-fn ended(bytes: usize, failed: bool) -> Next
+#[tactic(auto, unfolding(crate::specs::Lists::at_end))]
+fn ended(bytes: usize, failed: Option<Error>) -> Next
     ensures { Emptied failed bytes result }
 {
-    if failed {
+    if let Some(error) = failed {
         return Next {
-            taken: Taken::Failed,
-            bytes: bytes,
+            taken: Taken::Failed(error),
+            bytes,
             from: 0,
             to: 0,
         };
@@ -88,22 +90,22 @@ fn ended(bytes: usize, failed: bool) -> Next
     if bytes == 0 {
         return Next {
             taken: Taken::End,
-            bytes: bytes,
+            bytes,
             from: 0,
             to: 0,
         };
     }
     Next {
         taken: Taken::Unended,
-        bytes: bytes,
+        bytes,
         from: 0,
         to: 0,
     }
 }
 
 // Takes the next line, without the byte that ends it, or as much of it as finds room.
-pub fn take_line(
-    fd: i32,
+pub fn take_line<R: Read>(
+    list: &mut R,
     ends: u8,
     window: &mut [u8],
     at: usize,
@@ -118,7 +120,7 @@ pub fn take_line(
     let mut to = end;
     let mut bytes = 0;
     while bytes < line.len() {
-        let w = refilled(fd, window, from, to);
+        let w = refilled(list, window, from, to);
         let next = w.from;
         to = w.to;
         if next == to {
@@ -129,9 +131,9 @@ pub fn take_line(
         if c == ends {
             return Next {
                 taken: Taken::Line,
-                bytes: bytes,
-                from: from,
-                to: to,
+                bytes,
+                from,
+                to,
             };
         }
         line[bytes] = c;
@@ -139,9 +141,9 @@ pub fn take_line(
     }
     Next {
         taken: Taken::Part,
-        bytes: bytes,
-        from: from,
-        to: to,
+        bytes,
+        from,
+        to,
     }
 }
 

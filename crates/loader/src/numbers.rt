@@ -1,4 +1,5 @@
 // Numbers on the command line.
+use names::Console;
 
 // A number, or another word.
 #[derive(Drop)]
@@ -30,24 +31,24 @@ fn is_digit(c: u8) -> bool {
 
 // The number that the bytes spell in decimal.
 fn spelled(s: &[u8]) -> Parsed {
-    if s.len() == 0 {
+    if s.is_empty() {
         return Parsed::Other;
     }
     let mut n = 0;
-    let mut i = 0;
-    while i < s.len() {
-        if !is_digit(s[i]) {
+    for c in s {
+        if !is_digit(*c) {
             return Parsed::Other;
         }
-        n = more(n, s[i]);
-        i = i + 1;
+        n = more(n, *c);
     }
     Parsed::Number(n)
 }
 
-// The number that argument i spells.
-pub fn argument(i: usize) -> Parsed {
+// The number that argument i spells; one that is longer than the buffer is told as another word, as one that is missing is.
+pub fn argument(console: &Console, i: usize) -> Parsed {
     let mut word = [0u8; 32];
-    let n = os::arg(i, &mut word);
-    spelled(&word[..n])
+    match files::argument(console, i, &mut word) {
+        Ok(n) => spelled(&word[..n]),
+        Err(_) => Parsed::Other,
+    }
 }

@@ -4,7 +4,7 @@ use mathlib.Core.Path.{sym}
 use mathlib.Core.List.{List}
 use lib.ListN.{length}
 use lib.Seq.{length-take-le}
-use Rattle.io.specs.Counts.{IsPrefixLen}
+use Rattle.names.specs.Counts.{IsPrefixLen}
 
 -- no more bytes than the buffer holds
 pub within : (n : ℕ) (bs : List ℕ) → n ≤ length bs → IsPrefixLen n bs

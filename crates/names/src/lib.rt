@@ -1,11 +1,19 @@
 #![tactic(auto)]
 // Names of files: put together in a buffer, and shown so that each fills one line and is no other's.
+mod console;
+
 ghost use Rattle.std.specs.Prelude.{◌≡◌, [], ◌∷◌, ◌++◌, ◌+◌, ◌*◌, ◌-◌, ◌≤◌, ◌<◌, min, length, take};
 ghost use Rattle.std.proofs.Math.Seq.{paste};
-ghost use Rattle.io.specs.Counts.{IsPrefixLen};
+ghost use Rattle.names.specs.Counts.{IsPrefixLen};
 ghost use Rattle.names.specs.Shown.{plain, shown, shown_byte};
 
-use libc::PATH_MAX;
+pub use console::{Console, UNREAD};
+use std::fmt::InlineText;
+use std::io;
+use std::io::Print;
+
+// The most bytes of a path, with the 0 that ends it.
+pub const PATH_MAX: usize = 4096;
 
 const FIRST_PLAIN: u8 = 32;
 
@@ -14,13 +22,15 @@ const BACKSLASH: u8 = 92;
 const DELETE: u8 = 127;
 
 // How much of a name is shown that is too long.
-const NAME_SHOWN: isize = 64;
+const NAME_SHOWN: usize = 64;
 
 // A byte takes four at the most where it is shown.
 const TITLE_ROOM: usize = 4 * PATH_MAX;
 
 // The most words after a name, in bytes.
 const WORDS_ROOM: usize = 128;
+
+const LINE_ROOM: usize = TITLE_ROOM + WORDS_ROOM;
 
 pub fn least(a: usize, b: usize) -> usize
     ensures value { result ≡ min a b }
@@ -110,22 +120,47 @@ fn put_title(name: &[u8], out: &mut [u8]) -> usize
     if name.len() < PATH_MAX {
         return put_name(name, out, 0);
     }
-    let some = io::count(NAME_SHOWN, name);
-    let n = put_name(&name[..some], out, 0);
+    let n = put_name(&name[..NAME_SHOWN], out, 0);
     put(b"..", out, n)
 }
 
-// Writes the name as it is shown and the words at once, so that lines of programs side by side stay whole.
-pub fn write_line(fd: i32, name: &[u8], words: &[u8]) -> bool {
-    let mut text = [0u8; TITLE_ROOM + WORDS_ROOM];
-    let n = put_title(name, &mut text);
-    let m = put(words, &mut text, n);
-    io::write_all(fd, &text[..m])
+// Puts the name as it is shown and the words into text, and answers where they end.
+fn put_line(name: &[u8], words: &[u8], text: &mut [u8]) -> usize
+    requires { 4 * 4095 ≤ length text.old }
+    ensures { IsPrefixLen result text.new }
+{
+    let n = put_title(name, text);
+    put(words, text, n)
 }
 
-// Writes a line to standard error: the name, a colon and errno's text.
-pub fn fail(name: &[u8]) {
-    let mut text = [0u8; TITLE_ROOM];
-    let n = put_title(name, &mut text);
-    os::fail(&text[..n]);
+// Writes the name as it is shown and the words at once, so that lines of programs side by side stay whole.
+pub fn write_line(console: &Console, name: &[u8], words: &[u8]) -> io::Result<()> {
+    let mut text = [0u8; LINE_ROOM];
+    let n = put_line(name, words, &mut text);
+    console.write_all(&text[..n])
+}
+
+// The same to standard error. Where nothing can be written there, nobody can be told.
+pub fn say_line(console: &Console, name: &[u8], words: &[u8]) {
+    let mut text = [0u8; LINE_ROOM];
+    let n = put_line(name, words, &mut text);
+    let _ = console.say(&text[..n]);
+}
+
+// What the C library says of an error of the system, without the number that std puts behind it.
+fn reason(text: &str) -> &str {
+    match text.split_once(" (os error ") {
+        Some((words, _)) => words,
+        None => text,
+    }
+}
+
+// Writes a line to standard error: the name, a colon and what the error says.
+pub fn fail(console: &Console, name: &[u8], error: io::Error) {
+    let said = InlineText::<WORDS_ROOM>::of(error);
+    let mut words = [0u8; WORDS_ROOM];
+    let n = put(b": ", &mut words, 0);
+    let m = put(reason(said.as_str()).as_bytes(), &mut words, n);
+    let end = put(b"\n", &mut words, m);
+    say_line(console, name, &words[..end]);
 }

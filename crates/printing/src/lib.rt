@@ -3,58 +3,47 @@
 pub mod lines;
 pub mod words;
 
-use libc::STDOUT_FILENO;
+use names::Console;
 use records::{Record, Refusal};
+use std::io;
+use std::io::{Error, ErrorKind};
 
 // Says so where not all could be written.
-pub fn finished(written: bool) -> bool {
-    if !written {
-        os::fail(b"standard output");
+pub fn finished(console: &Console, written: io::Result<()>) -> bool {
+    match written {
+        Ok(()) => true,
+        Err(error) => {
+            names::fail(console, b"standard output", error);
+            false
+        }
     }
-    written
 }
 
 // A number's line.
-pub fn number(n: u64) -> bool {
-    if !io::print_decimal(STDOUT_FILENO, n) {
-        return false;
-    }
-    io::write_all(STDOUT_FILENO, b"\n")
+pub fn number(console: &Console, n: u64) -> io::Result<()> {
+    println!(console; "{n}")
 }
 
 // `refused` and the number.
-pub fn refused(x: Refusal) -> bool {
-    if !io::write_all(STDOUT_FILENO, b"refused ") {
-        return false;
-    }
-    number(records::number(x) as u64)
+pub fn refused(console: &Console, x: Refusal) -> io::Result<()> {
+    let n = records::number(x);
+    println!(console; "refused {n}")
 }
 
 // One pair, of its record in a listing: rule, space, place.
-fn pair(r: Record) -> bool {
-    if !io::print_decimal(STDOUT_FILENO, r.a as u64) {
-        return false;
-    }
-    if !io::write_all(STDOUT_FILENO, b" ") {
-        return false;
-    }
-    if !io::print_decimal(STDOUT_FILENO, r.b as u64) {
-        return false;
-    }
-    io::write_all(STDOUT_FILENO, b"\n")
+fn pair(console: &Console, r: Record) -> io::Result<()> {
+    let rule = r.a;
+    let place = r.b;
+    println!(console; "{rule} {place}")
 }
 
 // A line a pair, from the first n records of a listing, which must have as many.
-pub fn pairs(list: &[u8], n: usize) -> bool {
-    let mut i = 0;
-    while i < n {
+pub fn pairs(console: &Console, list: &[u8], n: usize) -> io::Result<()> {
+    for i in 0..n {
         if list.len() / 8 <= i {
-            return false;
+            return Err(Error::from(ErrorKind::UnexpectedEof));
         }
-        if !pair(records::record_at(list, 8 * i)) {
-            return false;
-        }
-        i = i + 1;
+        pair(console, records::record_at(list, 8 * i))?;
     }
-    true
+    Ok(())
 }

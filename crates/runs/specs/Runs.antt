@@ -32,7 +32,7 @@ ToldOnce false Line r = Answered r
 ToldOnce false Unended r = Answered r
 ToldOnce false Part r = Answered r
 ToldOnce false End r = r ≡ Nothing
-ToldOnce false Failed r = r ≡ Nothing
+ToldOnce false (Failed error) r = r ≡ Nothing
 
 -- the greatest number of 64 bits
 abbrev pub greatest : ℕ

@@ -6,8 +6,10 @@ ghost use Rattle.runs.specs.declared.Told.TheVariants.{Unread};
 ghost use Rattle.runs.specs.Runs.{greatest, told_of, total, AllCounted, Answered, Concluded, Counted, RunEnds, ToldAs, ToldOnce, Worst};
 
 use files::FileRead;
-use libc::{PATH_MAX, STDERR_FILENO, STDIN_FILENO};
 use lists::{Tabs, Taken};
+use names::{Console, PATH_MAX};
+use std::io;
+use std::io::Read;
 use teldyzhom::Checked;
 
 // One byte more than the limit of a file is enough to see that it is too long.
@@ -17,6 +19,9 @@ pub const CERTIFICATE_ROOM: usize = records::MOST_CERTIFICATE_BYTES + 1;
 
 // A line with two of the longest names and a tab has one byte less.
 const LINE_ROOM: usize = 2 * PATH_MAX;
+
+// How much of a list is read at once, at the most.
+const WINDOW_ROOM: usize = 65536;
 
 // More lines of a list, and further parts of those that are too long, are not taken: a loop must end.
 const MOST_LINES: u64 = 1000000000000;
@@ -31,7 +36,7 @@ pub enum Ended {
 
 // What was told of a pair: its answer; nothing, of a further part of a line that was told of already; or that it could not be
 // written.
-#[derive(Drop)]
+#[derive(Clone, Copy)]
 enum Told {
     Accepted,
     Refused,
@@ -41,7 +46,7 @@ enum Told {
 }
 
 // How many pairs were accepted, were refused and could not be read.
-#[derive(Drop)]
+#[derive(Clone, Copy)]
 struct Tally {
     accepted: u64,
     refused: u64,
@@ -106,44 +111,58 @@ fn worst(t: Tally) -> Ended
 }
 
 // The run's last line.
-fn conclude(t: Tally) -> Ended
+fn conclude(console: &Console, t: Tally) -> Ended
     ensures { Concluded t result }
 {
-    printing::lines::settle();
-    if !printing::finished(printing::lines::counts(t.accepted, t.refused, t.unread)) {
+    printing::lines::settle(console);
+    let written = printing::lines::counts(console, t.accepted, t.refused, t.unread);
+    if !printing::finished(console, written) {
         return Ended::Unjudged;
     }
     worst(t)
 }
 
-fn if_written(written: bool, answer: Told) -> Told
+fn if_written(console: &Console, written: io::Result<()>, answer: Told) -> Told
     ensures { ToldAs answer result }
 {
-    if printing::finished(written) {
+    if printing::finished(console, written) {
         return answer;
     }
     Told::Lost
 }
 
-fn tell_checked(name: &[u8], answer: Checked) -> Told
+fn tell_checked(console: &Console, name: &[u8], answer: Checked) -> Told
     ensures says { ToldAs (told_of answer) result }
     ensures answers { Answered result }
 {
     match answer {
-        Checked::Accepted => if_written(printing::lines::accepted(name), Told::Accepted),
-        Checked::Refused(x) => if_written(printing::lines::refused(name, x), Told::Refused),
+        Checked::Accepted => if_written(
+            console,
+            printing::lines::accepted(console, name),
+            Told::Accepted,
+        ),
+        Checked::Refused(x) => if_written(
+            console,
+            printing::lines::refused(console, name, x),
+            Told::Refused,
+        ),
     }
 }
 
-fn tell_unread(name: &[u8]) -> Told
+fn tell_unread(console: &Console, name: &[u8]) -> Told
     ensures says { ToldAs Unread result }
     ensures answers { Answered result }
 {
-    if_written(printing::lines::unread(name), Told::Unread)
+    if_written(
+        console,
+        printing::lines::unread(console, name),
+        Told::Unread,
+    )
 }
 
 // Checks the pack and the certificate of these names, and tells it by the pack's name, or by that of the file that could not be read.
 fn check_pair(
+    console: &Console,
     pack_name: &[u8],
     certificate_name: &[u8],
     pack: &mut [u8],
@@ -151,17 +170,18 @@ fn check_pair(
 ) -> Told
     ensures { Answered result }
 {
-    let pack_read = files::read_path(pack_name, pack);
-    if let FileRead::Failed = pack_read {
-        return tell_unread(pack_name);
+    let pack_read = files::read_path(console, pack_name, pack);
+    if let FileRead::Failed(_) = pack_read {
+        return tell_unread(console, pack_name);
     }
-    let certificate_read = files::read_path(certificate_name, certificate);
-    if let FileRead::Failed = certificate_read {
-        return tell_unread(certificate_name);
+    let certificate_read = files::read_path(console, certificate_name, certificate);
+    if let FileRead::Failed(_) = certificate_read {
+        return tell_unread(console, certificate_name);
     }
     let n = files::held(pack_read, pack);
     let m = files::held(certificate_read, certificate);
     tell_checked(
+        console,
         pack_name,
         teldyzhom::check_certificate(&pack[..n], &certificate[..m]),
     )
@@ -169,27 +189,43 @@ fn check_pair(
 
 // Checks the pair that arguments `at` and the next one name. A name that is too long leaves its start, which no file can be called
 // either.
-fn check_arguments(at: usize, pack: &mut [u8], certificate: &mut [u8]) -> Told
+fn check_arguments(console: &Console, at: usize, pack: &mut [u8], certificate: &mut [u8]) -> Told
     requires { at + 1 ≤ greatest }
     ensures { Answered result }
 {
-    let mut pack_name = io::buffer();
-    let n = os::arg(at, &mut pack_name);
-    if os::errno() != 0 {
-        names::fail(&pack_name);
-        return tell_unread(&pack_name);
-    }
-    let mut certificate_name = io::buffer();
-    let m = os::arg(at + 1, &mut certificate_name);
-    if os::errno() != 0 {
-        names::fail(&certificate_name);
-        return tell_unread(&certificate_name);
-    }
-    check_pair(&pack_name[..n], &certificate_name[..m], pack, certificate)
+    let mut pack_name = [0u8; PATH_MAX];
+    let n = match files::argument(console, at, &mut pack_name) {
+        Ok(n) => n,
+        Err(error) => {
+            names::fail(console, &pack_name, error);
+            return tell_unread(console, &pack_name);
+        }
+    };
+    let mut certificate_name = [0u8; PATH_MAX];
+    let m = match files::argument(console, at + 1, &mut certificate_name) {
+        Ok(m) => m,
+        Err(error) => {
+            names::fail(console, &certificate_name, error);
+            return tell_unread(console, &certificate_name);
+        }
+    };
+    check_pair(
+        console,
+        &pack_name[..n],
+        &certificate_name[..m],
+        pack,
+        certificate,
+    )
 }
 
 // Checks the pairs that the arguments from `first` on below `end` name.
-fn check_each(first: usize, end: usize, pack: &mut [u8], certificate: &mut [u8]) -> Run
+fn check_each(
+    console: &Console,
+    first: usize,
+    end: usize,
+    pack: &mut [u8],
+    certificate: &mut [u8],
+) -> Run
     requires { first ≤ end }
     ensures { AllCounted ((end - first) / 2) result }
 {
@@ -200,46 +236,51 @@ fn check_each(first: usize, end: usize, pack: &mut [u8], certificate: &mut [u8])
     };
     let mut at = first;
     while 1 < end - at {
-        let told = check_arguments(at, pack, certificate);
+        let told = check_arguments(console, at, pack, certificate);
         if let Told::Lost = told {
             return Run::Broken;
         }
         t = counted(t, told);
-        printing::lines::progress(all(t));
+        printing::lines::progress(console, all(t));
         at += 2;
     }
     Run::Whole(t)
 }
 
 // The end of a run over arguments.
-fn conclude_run(run: Run) -> Ended
+fn conclude_run(console: &Console, run: Run) -> Ended
     ensures { RunEnds run result }
 {
     match run {
-        Run::Whole(t) => conclude(t),
+        Run::Whole(t) => conclude(console, t),
         Run::Broken => Ended::Unjudged,
     }
 }
 
 // Checks the pairs of files that the arguments from `first` on below `end` name.
-pub fn check_named(first: usize, end: usize) -> Ended
+pub fn check_named(console: &Console, first: usize, end: usize) -> Ended
     requires { first ≤ end }
 {
     let mut pack = [0u8; PACK_ROOM];
     let mut certificate = [0u8; CERTIFICATE_ROOM];
-    conclude_run(check_each(first, end, &mut pack, &mut certificate))
+    conclude_run(
+        console,
+        check_each(console, first, end, &mut pack, &mut certificate),
+    )
 }
 
 // Tells why the line of that number of that list names no pair.
-fn tell_line(list: &[u8], number: u64, line: &[u8], why: &[u8]) -> Told
+fn tell_line(console: &Console, list: &[u8], number: u64, line: &[u8], why: &[u8]) -> Told
     ensures { Answered result }
 {
-    printing::lines::bad_line(list, number, why);
-    tell_unread(line)
+    printing::lines::bad_line(console, list, number, why);
+    tell_unread(console, line)
 }
 
 // Checks the pair that a line names.
+#[tactic(auto, unfolding(lists::specs::Lists::Splits))]
 fn check_line(
+    console: &Console,
     list: &[u8],
     number: u64,
     line: &[u8],
@@ -250,17 +291,19 @@ fn check_line(
 {
     let Tabs::One(k) = lists::only_tab(line) else {
         return tell_line(
+            console,
             list,
             number,
             line,
             b": Not a pack, a tab and a certificate\n",
         );
     };
-    check_pair(&line[..k], &line[k + 1..], pack, certificate)
+    check_pair(console, &line[..k], &line[k + 1..], pack, certificate)
 }
 
 // Checks the pair that a last line without its end names. Editors leave a line so; where a byte 0 ends lines, the list was cut.
 fn check_unended(
+    console: &Console,
     ends: u8,
     list: &[u8],
     number: u64,
@@ -271,13 +314,14 @@ fn check_unended(
     ensures { Answered result }
 {
     if ends == lists::ZERO {
-        return tell_line(list, number, line, b": Line without its end\n");
+        return tell_line(console, list, number, line, b": Line without its end\n");
     }
-    check_line(list, number, line, pack, certificate)
+    check_line(console, list, number, line, pack, certificate)
 }
 
 // Checks what was taken from a list. Of a line that is too long only the first part is told of.
 fn check_taken(
+    console: &Console,
     taken: Taken,
     begun: bool,
     ends: u8,
@@ -293,11 +337,11 @@ fn check_taken(
         return Told::Nothing;
     }
     match taken {
-        Taken::Line => check_line(list, number, line, pack, certificate),
-        Taken::Unended => check_unended(ends, list, number, line, pack, certificate),
-        Taken::Part => tell_line(list, number, line, b": Line too long\n"),
+        Taken::Line => check_line(console, list, number, line, pack, certificate),
+        Taken::Unended => check_unended(console, ends, list, number, line, pack, certificate),
+        Taken::Part => tell_line(console, list, number, line, b": Line too long\n"),
         Taken::End => Told::Nothing,
-        Taken::Failed => Told::Nothing,
+        Taken::Failed(_) => Told::Nothing,
     }
 }
 
@@ -309,38 +353,39 @@ fn is_part(taken: Taken) -> bool {
 }
 
 // The end of a run over the list of that name: one without a pair has judged nothing, and has no counts.
-fn conclude_list(t: Tally, name: &[u8]) -> Ended
+fn conclude_list(console: &Console, t: Tally, name: &[u8]) -> Ended
     requires { total t ≤ greatest }
     ensures { Concluded t result }
 {
     if all(t) == 0 {
-        names::write_line(STDERR_FILENO, name, b": No pair of files in this list\n");
+        names::say_line(console, name, b": No pair of files in this list\n");
         return Ended::Unjudged;
     }
-    conclude(t)
+    conclude(console, t)
 }
 
 // The end of a run over a list that could not be read to its end: where lines were told, it is told and counted beside them, so that
 // they do not look whole.
-fn break_off(t: Tally, name: &[u8]) -> Ended
+fn break_off(console: &Console, t: Tally, name: &[u8], error: io::Error) -> Ended
     requires { total t < greatest }
     ensures { result ≡ Unjudged }
 {
-    names::fail(name);
+    names::fail(console, name, error);
     if all(t) == 0 {
         return Ended::Unjudged;
     }
-    let told = tell_unread(name);
+    let told = tell_unread(console, name);
     if let Told::Lost = told {
         return Ended::Unjudged;
     }
-    conclude(counted(t, told));
+    conclude(console, counted(t, told));
     Ended::Unjudged
 }
 
-// Checks the pairs that the lines of fd name, a list of that name whose lines end in that byte.
-fn check_lines(
-    fd: i32,
+// Checks the pairs that the list's lines name, a list of that name whose lines end in that byte.
+fn check_lines<R: Read>(
+    console: &Console,
+    list: &mut R,
     ends: u8,
     name: &[u8],
     window: &mut [u8],
@@ -358,17 +403,18 @@ fn check_lines(
     let mut begun = false;
     let mut taken = 0;
     while taken < MOST_LINES {
-        let next = lists::take_line(fd, ends, window, from, to, line);
+        let next = lists::take_line(list, ends, window, from, to, line);
         let what = next.taken;
         if let Taken::End = what {
-            return conclude_list(t, name);
+            return conclude_list(console, t, name);
         }
-        if let Taken::Failed = what {
-            return break_off(t, name);
+        if let Taken::Failed(error) = what {
+            return break_off(console, t, name, error);
         }
         let bytes = next.bytes;
         let number = all(t) + 1;
         let told = check_taken(
+            console,
             what,
             begun,
             ends,
@@ -383,24 +429,25 @@ fn check_lines(
         }
         t = counted(t, told);
         if !begun {
-            printing::lines::progress(all(t));
+            printing::lines::progress(console, all(t));
         }
         begun = is_part(what);
         from = next.from;
         to = next.to;
         taken += 1;
     }
-    names::write_line(STDERR_FILENO, name, b": Too many lines\n");
+    names::say_line(console, name, b": Too many lines\n");
     Ended::Unjudged
 }
 
-fn check_open(fd: i32, ends: u8, name: &[u8]) -> Ended {
-    let mut window = io::large_buffer();
+fn check_open<R: Read>(console: &Console, list: &mut R, ends: u8, name: &[u8]) -> Ended {
+    let mut window = [0u8; WINDOW_ROOM];
     let mut line = [0u8; LINE_ROOM];
     let mut pack = [0u8; PACK_ROOM];
     let mut certificate = [0u8; CERTIFICATE_ROOM];
     check_lines(
-        fd,
+        console,
+        list,
         ends,
         name,
         &mut window,
@@ -410,23 +457,32 @@ fn check_open(fd: i32, ends: u8, name: &[u8]) -> Ended {
     )
 }
 
+// Checks the pairs that the list of that name names; its lines end in that byte.
+fn check_path(console: &Console, name: &[u8], ends: u8) -> Ended {
+    match files::open_path(console, name) {
+        Ok(file) => {
+            let mut list = file;
+            check_open(console, &mut list, ends, name)
+        }
+        Err(error) => {
+            names::fail(console, name, error);
+            Ended::Unjudged
+        }
+    }
+}
+
 // Checks the pairs that the list names whose name is argument `at`, `-` for standard input; its lines end in that byte.
-pub fn check_list(at: usize, ends: u8) -> Ended {
-    if files::is_input(at) {
-        return check_open(STDIN_FILENO, ends, b"standard input");
+pub fn check_list(console: &Console, at: usize, ends: u8) -> Ended {
+    if files::is_input(console, at) {
+        let mut input = console.rt.stdin();
+        return check_open(console, &mut input, ends, b"standard input");
     }
-    let mut name = io::buffer();
-    let n = os::arg(at, &mut name);
-    if os::errno() != 0 {
-        names::fail(&name);
-        return Ended::Unjudged;
+    let mut name = [0u8; PATH_MAX];
+    match files::argument(console, at, &mut name) {
+        Ok(n) => check_path(console, &name[..n], ends),
+        Err(error) => {
+            names::fail(console, &name, error);
+            Ended::Unjudged
+        }
     }
-    let fd = os::open_read(&name[..n]);
-    if fd < 0 {
-        names::fail(&name[..n]);
-        return Ended::Unjudged;
-    }
-    let ended = check_open(fd, ends, &name[..n]);
-    libc::close(fd);
-    ended
 }

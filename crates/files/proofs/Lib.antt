@@ -1,2 +1,0 @@
--- What the proofs of reading and writing share.
-pub mod Counting

@@ -1,0 +1,2 @@
+-- What the exit status says.
+pub mod Status

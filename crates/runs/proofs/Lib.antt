@@ -1,2 +1,0 @@
--- How answers are told and counted.
-pub mod Counting
