@@ -9,7 +9,7 @@ use native.Mathlib.Numerals.{add-one}
 use borrow.Author.Count.{below_more}
 use lib.ListN.{length, get_or, take, drop, set, length-append, length-set, drop_of_length-le, get_or-append}
 use lib.Seq.{length-take-le, drop-drop, get_or-set_same, get_or-set_other, get_or_at}
-use Rattle.rewriting.specs.Terms.{Rule, System, rule, no_rule}
+use Rattle.rewriting.specs.Terms.{Rule, System, no_rule}
 use Rattle.records.specs.declared.Record.{Record}
 use Rattle.records.specs.declared.Answer.{Answer}
 use Rattle.records.specs.declared.Wanted.TheVariants.{Found, Stray}

@@ -12,7 +12,7 @@ use Rattle.records.specs.Outcomes.{Outcome, refused, passed, after}
 use Rattle.records.specs.Records.{record_at}
 use Rattle.records.specs.Files.{Whole}
 use Rattle.records.specs.Order.{s_symbol, v_variable, index, may_follow}
-use Rattle.terms.specs.Sides.{Node, variable, symbol, flat, side}
+use Rattle.terms.specs.Sides.{Node, flat}
 use Rattle.terms.specs.Kept.{code, codes, Kept, balanced, nodes_room, starts_room, symbols_room}
 use Rattle.packs.specs.PackReading.{node_zeros, node_of, side_count, most_pack_bytes, most_symbols, most_arity, most_rules, variable_count}
 use Rattle.packs.specs.Encoding.{GoodPack}

@@ -1,5 +1,5 @@
 -- The way back: the bytes of a system, and which systems can be written.
-use Rattle.std.specs.Prelude.{List, [], ◌∷◌, ◌++◌, ℕ, suc, ◌+◌, ◌≤◌, ◌<◌, length, get_or}
+use Rattle.std.specs.Prelude.{List, [], ◌∷◌, ◌++◌, ℕ, suc, ◌≤◌, ◌<◌, length, get_or}
 use Rattle.rewriting.specs.Terms.{Rule, System, rule}
 use Rattle.rewriting.specs.Systems.{Good}
 use Rattle.records.specs.declared.Record.{Record}

@@ -1,10 +1,8 @@
 -- What the reader of texts answers and writes, from the answers of the functions that it calls.
 use mathlib.Core.Path.{◌≡◌, refl, sym, ap, subst, ◌∙◌}
-use mathlib.Core.Bool.{Bool, true, false}
 use mathlib.Core.List.{List}
 use Prim.Native.Nat.{ℕ, ◌≤◌, ◌<◌}
 use native.Mathlib.Omega.{arith}
-use lib.Dec.{leb}
 use lib.ListN.{length}
 use borrow.Author.Tests.{le-leb, lt-leb}
 use Rattle.rewriting.specs.Terms.{System}
@@ -12,17 +10,15 @@ use Rattle.records.specs.declared.Refusal.{Refusal}
 use Rattle.records.specs.declared.Refusal.TheVariants.{ShortList}
 use Rattle.records.specs.declared.Answer.{Answer}
 use Rattle.records.specs.declared.Answer.TheVariants.{Passed, Refused}
-use Rattle.records.specs.Outcomes.{Outcome, refused, passed, after, unless, refusal}
-use Rattle.records.specs.Answers.{number_of, answer_outcome}
-use Rattle.packs.specs.PackReading.{most_pack_bytes}
+use Rattle.records.specs.Outcomes.{Outcome, refused, passed}
+use Rattle.records.specs.Answers.{number_of}
 use Rattle.packs.specs.Encoding.{pack_bytes}
 use Rattle.pack_reader.specs.declared.Counts.{Counts}
 use Rattle.pack_reader.specs.declared.PackRead.{PackRead}
 use Rattle.pack_reader.specs.declared.PackRead.TheVariants.{Read, Refused as PackRefused}
 use Rattle.pack_writer.specs.Writing.{PackAsked, WritingAsked, written}
-use Rattle.texts.specs.TextReading.{read_text, text_pack, pack_after, pack_value}
+use Rattle.texts.specs.TextReading.{read_text, text_pack, pack_after}
 use Rattle.texts.specs.Says.{length_outcome, ReadAs}
-use Rattle.texts.proofs.Sizes.{read_small}
 use Rattle.text_reader.specs.Tables.{RefusedWith, TextTold}
 
 -- THE TEXT

@@ -1,17 +1,15 @@
 -- A walk over kept nodes: an argument list is still to be read, and each node read leaves another one.
 use mathlib.Core.Path.{◌≡◌, refl, sym, ap, ◌∙◌}
-use mathlib.Core.Bool.{Bool, true, false, ◌&&◌, not, cond}
-use mathlib.Core.List.{List, [], ◌∷◌, ◌++◌, append_assoc, map}
+use mathlib.Core.Bool.{Bool, true, false, ◌&&◌, not}
+use mathlib.Core.List.{List, ◌∷◌, ◌++◌, append_assoc, map}
 use Prim.Native.Nat.{ℕ, zero, suc, ◌+◌, ◌-◌, ◌≤◌, ◌<◌}
-use native.Mathlib.Nat.{add-zero}
 use native.Mathlib.Numerals.{add-one}
 use native.Mathlib.Omega.{arith}
-use lib.Dec.{ltb, eqb}
-use lib.ListN.{length, get_or, take, drop, length-append}
+use lib.ListN.{length, get_or, take, drop}
 use lib.Seq.{drop-cons, get_or-take}
 use borrow.Author.Tests.{ltb-true, eqb-true, lt-ltb, le-ltb}
 use Rattle.rewriting.specs.Terms.{Tree, var, app, nil, cons, System, width, is_list, well}
-use Rattle.rewriting.proofs.Basics.{and_left, and_right, and_both, ands}
+use Rattle.rewriting.proofs.Basics.{and_left, and_both, ands}
 use Rattle.rewriting.proofs.Trees.{well_others}
 use Rattle.terms.specs.Sides.{Node, variable, symbol, flat}
 use Rattle.terms.specs.Kept.{code, codes, Kept, code_arity}

@@ -3,10 +3,8 @@
 use mathlib.Core.Path.{◌≡◌, sym, ap, ◌∙◌, subst}
 use mathlib.Core.Bool.{true}
 use mathlib.Core.List.{List, ◌∷◌}
-use Prim.Native.Nat.{ℕ, suc, ◌*◌, ◌/◌, ◌-◌, ◌≤◌, ◌<◌}
+use Prim.Native.Nat.{ℕ, suc, ◌*◌, ◌/◌, ◌<◌}
 use native.Mathlib.Omega.{arith}
-use borrow.Author.Rules.{rules}
-use borrow.Author.Tests.{not-true, not-false}
 use lib.ListN.{length, drop}
 use Rattle.rewriting.specs.Terms.{System}
 use Rattle.records.specs.declared.Record.{Record}
@@ -22,7 +20,7 @@ use Rattle.certificate_reader.specs.declared.State.{State}
 use Rattle.certificate_reader.specs.declared.Stepped.{Stepped}
 use Rattle.certificate_reader.specs.declared.Stepped.TheVariants.{On}
 use Rattle.certificates.specs.CertificateReading.{cert_step}
-use Rattle.certificate_reader.specs.Working.{SoundState, StepsAs, GoesOn}
+use Rattle.certificate_reader.specs.Working.{StepsAs, GoesOn}
 use Rattle.certificate_reader.proofs.Mirrored.{start_sound}
 use Rattle.certificate_reader.proofs.Turns.{Told, told_nothing, told_refusal, told_next}
 use Rattle.certificate_reader.proofs.Ends.{ends_refused, ends_stray, ends_early, ends_missing, ends_read}

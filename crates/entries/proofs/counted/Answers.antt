@@ -1,7 +1,6 @@
 -- `entries::counted` meets its contract.
 use mathlib.Core.Path.{refl, sym}
 use native.Mathlib.Omega.{arith}
-use borrow.Author.Rules.{rules}
 use borrow.Author.Tests.{eq-eqb, ne_eqb}
 use Rattle.records.specs.Order.{p_pair}
 use Rattle.entries.proofs.counted.Goals as goal

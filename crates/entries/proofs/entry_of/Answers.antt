@@ -1,6 +1,5 @@
 -- `entries::entry_of` meets its contract, field by field.
 use mathlib.Core.Path.{ap}
-use borrow.Author.Rules.{rules}
 use Rattle.records.specs.declared.Record.{Record}
 use Rattle.entries.specs.Entries.{entry}
 use Rattle.entries.proofs.entry_of.Goals as goal

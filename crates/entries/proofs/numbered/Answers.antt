@@ -1,7 +1,6 @@
 -- `entries::numbered` meets its contract: C begins the next component.
 use mathlib.Core.Path.{refl, sym}
 use native.Mathlib.Omega.{arith}
-use borrow.Author.Rules.{rules}
 use borrow.Author.Tests.{eq-eqb, ne_eqb}
 use Rattle.records.specs.Order.{c_component}
 use Rattle.entries.specs.Entries.{numbered}

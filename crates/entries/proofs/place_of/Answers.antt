@@ -1,6 +1,5 @@
 -- `entries::place_of` meets its contract.
 use mathlib.Core.Path.{refl, sym}
-use borrow.Author.Rules.{rules}
 use borrow.Author.Tests.{eq-eqb, ne_eqb}
 use Rattle.records.specs.Order.{p_pair}
 use Rattle.entries.proofs.place_of.Goals as goal

@@ -1,5 +1,4 @@
 -- `pack_writer::node_record` meets its contract: a byte below the first variable's is a symbol.
-use borrow.Author.Rules.{rules}
 use borrow.Author.Tests.{lt-ltb, le-ltb}
 use Rattle.pack_writer.specs.Writing.{byte_record}
 use Rattle.pack_writer.proofs.node_record.Goals as goal

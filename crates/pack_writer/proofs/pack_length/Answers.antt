@@ -1,7 +1,6 @@
 -- `pack_writer::pack_length` meets its contract: a record a symbol, a rule and a node, and the last side ends after all nodes.
 use Prim.Native.Nat.{◌*◌, ◌<◌}
 use native.Mathlib.Omega.{arith}
-use borrow.Author.Rules.{rules}
 use lib.ListN.{get_or}
 use Rattle.pack_writer.proofs.FromArrays.{pack_long}
 use Rattle.pack_writer.proofs.pack_length.Goals as goal

@@ -1,17 +1,10 @@
 -- `pack_writer::write_nodes` meets its contract. The loop's invariant: the records of the nodes before i are written.
-use mathlib.Core.Path.{◌≡◌, refl, ◌∙◌}
-use mathlib.Core.List.{List, ◌++◌, map, map-append}
-use Prim.Native.Nat.{ℕ, ◌+◌, ◌*◌, ◌-◌, ◌≤◌, ◌<◌}
-use native.Mathlib.Omega.{arith}
-use borrow.Author.Rules.{rules}
-use lib.ListN.{length, get_or, take, drop}
-use Rattle.records.specs.declared.Record.{Record}
-use Rattle.records.specs.Records.{record_bytes}
+use mathlib.Core.Path.{◌≡◌}
+use mathlib.Core.List.{map}
+use Prim.Native.Nat.{◌+◌, ◌*◌, ◌-◌, ◌≤◌}
+use lib.ListN.{length}
 use Rattle.terms.specs.Kept.{part}
-use Rattle.terms.proofs.Parts.{part_none}
 use Rattle.pack_writer.specs.Writing.{byte_record, RecordsWritten}
-use Rattle.pack_writer.proofs.InBuffer.{written_none, written_more}
-use Rattle.pack_writer.proofs.FromArrays.{part_last}
 use Rattle.pack_writer.proofs.write_nodes.Given as goal
 
 abbrev pub invariant-loop-i : goal.invariant-loop-i

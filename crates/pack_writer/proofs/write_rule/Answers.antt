@@ -1,6 +1,5 @@
 -- `pack_writer::write_rule` meets its contract: R, then the nodes of both sides.
 use native.Mathlib.Omega.{arith}
-use borrow.Author.Rules.{rules}
 use Rattle.pack_writer.specs.Writing.{rule_between}
 use Rattle.pack_writer.proofs.InBuffer.{written_one, written_then}
 use Rattle.pack_writer.proofs.write_rule.Goals as goal

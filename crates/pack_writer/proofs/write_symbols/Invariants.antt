@@ -1,12 +1,9 @@
 -- `pack_writer::write_symbols` meets its contract. The loop's invariant: the records of the first i symbols are written.
-use mathlib.Core.Path.{◌≡◌, refl, ◌∙◌}
-use Prim.Native.Nat.{◌+◌, ◌*◌, ◌-◌, ◌≤◌}
-use native.Mathlib.Omega.{arith}
+use mathlib.Core.Path.{◌≡◌}
+use Prim.Native.Nat.{◌*◌, ◌-◌, ◌≤◌}
 use lib.ListN.{length, take}
 use Rattle.packs.specs.Encoding.{symbol_records}
 use Rattle.pack_writer.specs.Writing.{RecordsWritten}
-use Rattle.pack_writer.proofs.InBuffer.{written_none, written_more}
-use Rattle.pack_writer.proofs.FromArrays.{symbols_more}
 use Rattle.pack_writer.proofs.write_symbols.Given as goal
 
 abbrev pub invariant-loop-i : goal.invariant-loop-i

@@ -1,7 +1,7 @@
 -- `partition::back_from` meets its contract. The loop's invariant: no arc leads back to one of the first s rules.
-use Rattle.std.proofs.Common.{◌≡◌, ◌-◌, ◌≤◌, false, sym, refl, arith}
+use Rattle.std.proofs.Common.{◌≡◌, sym, refl, arith}
 use Rattle.pair_finder.proofs.Kept.{term_within}
-use Rattle.partition.specs.Working.{back_to, BackAsked}
+use Rattle.partition.specs.Working.{back_to}
 use Rattle.partition.proofs.Keys.{right_term, root_small, none_lower, found_next, none_found, found_reached, found_back, found_none}
 use Rattle.partition.proofs.back_from.Goals as goal
 

@@ -1,8 +1,6 @@
 -- `partition::back_from` meets its contract. The loop's invariant: no arc leads back to one of the first s rules.
-use Rattle.std.proofs.Common.{◌≡◌, ◌-◌, ◌≤◌, false, sym, refl, arith}
-use Rattle.pair_finder.proofs.Kept.{term_within}
+use Rattle.std.proofs.Common.{◌≡◌, ◌-◌, ◌≤◌, false}
 use Rattle.partition.specs.Working.{back_to, BackAsked}
-use Rattle.partition.proofs.Keys.{right_term, root_small, none_lower, found_next, none_found, found_reached, found_back, found_none}
 use Rattle.partition.proofs.back_from.Given as goal
 
 abbrev pub invariant-loop-s : goal.invariant-loop-s

@@ -1,5 +1,5 @@
 -- `partition::back_from_entry` meets its contract: the entry's pair is kept at its place of its rule's right side.
-use Rattle.std.proofs.Common.{◌+◌, ◌*◌, ◌<◌, ◌≤◌, length, get_or, arith, rules}
+use Rattle.std.proofs.Common.{◌+◌, ◌*◌, ◌<◌, ◌≤◌, length, get_or, arith}
 use Rattle.partition.specs.Working.{back_at}
 use Rattle.partition.proofs.Keys.{of_entry, entry_rule}
 use Rattle.partition.proofs.back_from_entry.Goals as goal

@@ -1,15 +1,12 @@
 -- `partition::judge` meets its contract: 8 for a wrong count or a pair that stands twice, 9 for an arc back, else neither.
-use Rattle.std.proofs.Common.{◌≡◌, ℕ, ◌-◌, ◌<◌, ◌≤◌, Bool, true, false, cond, List, length, get_or, drop, sym, refl, ◌∙◌, arith, rules}
+use Rattle.std.proofs.Common.{◌≡◌, ℕ, ◌<◌, ◌≤◌, true, false, List, length, get_or, sym, refl, ◌∙◌, arith}
 use Rattle.rewriting.specs.Pairs.{is_pair}
-use Rattle.records.specs.Records.{all_records}
 use Rattle.pair_finder.specs.Walking.{first_pairs}
-use Rattle.entries.specs.declared.Entry.{Entry}
 use Rattle.entries.specs.declared.Store.{Store}
-use Rattle.entries.specs.Entries.{none, entries_of}
+use Rattle.entries.specs.Entries.{none}
 use Rattle.partition.specs.Working.{named, slot, Keyed, NamesPairs, Judgeable, OrderingAsked, OrderedAs}
 use Rattle.partition.proofs.Counted.{pairs_few}
-use Rattle.partition.proofs.Twice.{untaken}
-use Rattle.partition.proofs.Noting.{Noted, start, again, first, none_again, all_lowest}
+use Rattle.partition.proofs.Noting.{start, again, first, none_again, all_lowest}
 use Rattle.partition.proofs.Searching.{found, not_here, nowhere}
 use Rattle.partition.proofs.FromRead.{pair_small}
 use Rattle.partition.proofs.Ordered.{names, eight_counted, eight_twice, one_alone, by_arcs}

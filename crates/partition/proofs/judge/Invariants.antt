@@ -1,19 +1,10 @@
 -- `partition::judge` meets its contract: 8 for a wrong count or a pair that stands twice, 9 for an arc back, else neither.
-use Rattle.std.proofs.Common.{◌≡◌, ℕ, ◌-◌, ◌<◌, ◌≤◌, Bool, true, false, cond, List, length, get_or, drop, sym, refl, ◌∙◌, arith, rules}
-use Rattle.rewriting.specs.Pairs.{is_pair}
+use Rattle.std.proofs.Common.{◌≡◌, ℕ, ◌-◌, ◌≤◌, List, drop}
 use Rattle.records.specs.Records.{all_records}
-use Rattle.pair_finder.specs.Walking.{first_pairs}
 use Rattle.entries.specs.declared.Entry.{Entry}
-use Rattle.entries.specs.declared.Store.{Store}
-use Rattle.entries.specs.Entries.{none, entries_of}
-use Rattle.partition.specs.Working.{named, slot, any_taken, lowest, any_back, Keyed, NamesPairs, Judgeable, ordered, OrderedAs}
-use Rattle.partition.proofs.Counted.{pairs_few}
-use Rattle.partition.proofs.Twice.{untaken}
-use Rattle.partition.proofs.Noting.{Noted, start, again, first, none_again, all_lowest}
-use Rattle.partition.proofs.Searching.{found, not_here, nowhere}
-use Rattle.partition.proofs.FromRead.{pair_small}
-use Rattle.partition.proofs.Ordered.{names, eight_counted, eight_twice, one_alone, by_arcs}
-use Rattle.partition.proofs.Keys.{left_sides}
+use Rattle.entries.specs.Entries.{entries_of}
+use Rattle.partition.specs.Working.{any_back, Keyed, Judgeable}
+use Rattle.partition.proofs.Noting.{Noted}
 use Rattle.partition.proofs.judge.Given as goal
 
 -- the entries of a certificate

@@ -1,6 +1,5 @@
 -- `partition::keep_keys` meets its contract. The loop's invariant: the first s rules have their keys.
-use Rattle.std.proofs.Common.{◌≡◌, ◌-◌, ◌*◌, ◌≤◌, get_or, sym, ◌∙◌, arith}
-use Rattle.partition.specs.Working.{Keys}
+use Rattle.std.proofs.Common.{◌≡◌, ◌*◌, get_or, arith}
 use Rattle.partition.proofs.Keys.{more_keys}
 use Rattle.partition.proofs.keep_keys.Goals as goal
 

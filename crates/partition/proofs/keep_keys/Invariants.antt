@@ -1,7 +1,6 @@
 -- `partition::keep_keys` meets its contract. The loop's invariant: the first s rules have their keys.
-use Rattle.std.proofs.Common.{◌≡◌, ◌-◌, ◌*◌, ◌≤◌, get_or, sym, ◌∙◌, arith}
+use Rattle.std.proofs.Common.{◌-◌, ◌≤◌}
 use Rattle.partition.specs.Working.{Keys}
-use Rattle.partition.proofs.Keys.{more_keys}
 use Rattle.partition.proofs.keep_keys.Given as goal
 
 abbrev pub invariant-loop-s : goal.invariant-loop-s

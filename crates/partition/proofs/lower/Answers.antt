@@ -1,5 +1,5 @@
 -- `partition::lower` meets its contract.
-use Rattle.std.proofs.Common.{◌≡◌, ℕ, ◌<◌, ◌≤◌, min, cond, eqb, List, length, get_or, set, sym, refl, ◌∙◌, arith, length-set, get_or-set_other, get_or-set_same, rules, ne_eqb, eqb-true}
+use Rattle.std.proofs.Common.{◌≡◌, ℕ, ◌<◌, ◌≤◌, min, cond, eqb, List, length, get_or, set, sym, refl, ◌∙◌, arith, length-set, get_or-set_other, get_or-set_same, ne_eqb, eqb-true}
 use borrow.Author.Tests.{eqb-false}
 use Rattle.rewriting.proofs.Basics.{by_test}
 use Rattle.partition.proofs.lower.Goals as goal

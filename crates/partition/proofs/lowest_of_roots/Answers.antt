@@ -1,6 +1,5 @@
 -- `partition::lowest_of_roots` meets its contract. The loop's invariant: no root's component is above one of the first s rules'.
-use Rattle.std.proofs.Common.{◌≡◌, ◌-◌, ◌*◌, ◌≤◌, get_or, sym, ◌∙◌, arith, rules}
-use Rattle.partition.specs.Working.{Roots}
+use Rattle.std.proofs.Common.{◌≡◌, ◌*◌, get_or, arith}
 use Rattle.partition.proofs.Keys.{more_roots}
 use Rattle.partition.proofs.lowest_of_roots.Goals as goal
 

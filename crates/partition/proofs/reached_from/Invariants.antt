@@ -1,8 +1,6 @@
 -- `partition::reached_from` meets its contract. The loop's invariant: no arc leads back to one of the rules from `first` up to s.
-use Rattle.std.proofs.Common.{◌≡◌, ◌-◌, ◌≤◌, false, sym, ◌∙◌, ⊎_elim, arith, rules}
-use Rattle.pair_finder.proofs.Kept.{term_within}
+use Rattle.std.proofs.Common.{◌≡◌, ◌-◌, ◌≤◌, false}
 use Rattle.partition.specs.Working.{back_to, SearchAsked}
-use Rattle.partition.proofs.Keys.{asked_of, right_term, root_small, none_more, none_reached, is_lower, no_lower}
 use Rattle.partition.proofs.reached_from.Given as goal
 
 abbrev pub invariant-loop-s : goal.invariant-loop-s

@@ -1,9 +1,8 @@
 -- `terms::skip` meets its contract. The loop's invariant: an argument list of as many terms as are wanted is still to be
 -- read, and it ends where the term ends.
-use mathlib.Core.Path.{◌≡◌, refl, sym, ap, ◌∙◌}
-use mathlib.Core.Bool.{Bool, true, false}
-use mathlib.Core.List.{List, [], ◌∷◌, append-nil}
-use Prim.Native.Nat.{ℕ, zero, suc, ◌+◌, ◌*◌, ◌-◌, ◌≤◌, ◌<◌}
+use mathlib.Core.Path.{◌≡◌, refl, ap}
+use mathlib.Core.List.{List, append-nil}
+use Prim.Native.Nat.{ℕ, ◌+◌, ◌*◌, ◌-◌, ◌≤◌, ◌<◌}
 use native.Mathlib.Omega.{arith}
 use borrow.Author.Rules.{rules}
 use lib.ListN.{length, get_or}
@@ -11,7 +10,7 @@ use Rattle.rewriting.specs.Terms.{Tree, nil, cons, is_list, is_term, well, width
 use Rattle.rewriting.proofs.Basics.{and_both}
 use Rattle.terms.specs.Sides.{flat}
 use Rattle.terms.specs.Kept.{TermAt, code_arity}
-use Rattle.terms.proofs.Rests.{Rest, Less, node_read, node_within, rest_none}
+use Rattle.terms.proofs.Rests.{Rest, node_read, node_within, rest_none}
 use Rattle.terms.proofs.skip.Statement.{statement}
 use Rattle.terms.proofs.skip.Tie as tie
 

@@ -1,12 +1,9 @@
 -- `text_names::hash` meets its contract. The loop's invariant: going on from h with what is left of the name comes to the name's hash.
-use mathlib.Core.Path.{◌≡◌, refl, sym, ◌∙◌}
-use Prim.Native.Nat.{◌-◌, ◌≤◌, ◌<◌}
+use mathlib.Core.Path.{refl, sym, ◌∙◌}
+use Prim.Native.Nat.{◌<◌}
 use native.Mathlib.Omega.{arith}
-use borrow.Author.Rules.{rules}
-use borrow.Author.Tests.{not-true, not-false}
-use lib.ListN.{length, get_or}
-use Rattle.text_tokens.specs.Told.{name_at}
-use Rattle.text_names.specs.Table.{hashes, hash_from, hash}
+use lib.ListN.{get_or}
+use Rattle.text_names.specs.Table.{hash}
 use Rattle.text_names.proofs.Hashes.{hash_end, hash_no_more, hash_more}
 use Rattle.text_names.proofs.hash.Goals as goal
 

@@ -1,7 +1,6 @@
 -- `text_names::is_kept_at` meets its contract.
 use Prim.Native.Nat.{◌+◌, ◌<◌}
 use native.Mathlib.Omega.{arith}
-use borrow.Author.Rules.{rules}
 use borrow.Author.Tests.{lt-ltb, le-ltb}
 use lib.ListN.{get_or}
 use Rattle.text_names.specs.Table.{first_kept, kept, is_kept_at}

@@ -3,7 +3,6 @@
 use mathlib.Core.Path.{sym, ◌∙◌}
 use Prim.Native.Nat.{◌+◌, ◌%◌}
 use native.Mathlib.Omega.{arith}
-use borrow.Author.Rules.{rules}
 use lib.ListN.{length-set}
 use Rattle.text_names.specs.Table.{first_hint, hint_room}
 use Rattle.text_names.proofs.Table.{kept_at_index, rising_hinted, keeps_same, keeps_left_out, keeps_put}

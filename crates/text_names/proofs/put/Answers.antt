@@ -1,10 +1,10 @@
 -- `text_names::put` meets its contract. The loop's invariant: entries from place j on have moved up, the others stay.
-use mathlib.Core.Path.{◌≡◌, refl}
-use Prim.Native.Nat.{◌+◌, ◌-◌, ◌≤◌, ◌<◌}
+use mathlib.Core.Path.{refl}
+use Prim.Native.Nat.{◌-◌, ◌<◌}
 use native.Mathlib.Omega.{arith}
 use lib.ListN.{length, length-set}
-use Rattle.text_names.specs.Table.{most_kept, first_kept, count}
-use Rattle.text_names.proofs.Moves.{Moved, moved_none, moved_more, moved_put}
+use Rattle.text_names.specs.Table.{most_kept, count}
+use Rattle.text_names.proofs.Moves.{moved_none, moved_more, moved_put}
 use Rattle.text_names.proofs.put.Goals as goal
 
 pub bounds-table-1 : goal.bounds-table-1

@@ -1,10 +1,8 @@
 -- `text_names::put` meets its contract. The loop's invariant: entries from place j on have moved up, the others stay.
-use mathlib.Core.Path.{◌≡◌, refl}
-use Prim.Native.Nat.{◌+◌, ◌-◌, ◌≤◌, ◌<◌}
-use native.Mathlib.Omega.{arith}
-use lib.ListN.{length, length-set}
-use Rattle.text_names.specs.Table.{most_kept, first_kept, count}
-use Rattle.text_names.proofs.Moves.{Moved, moved_none, moved_more, moved_put}
+use mathlib.Core.Path.{◌≡◌}
+use Prim.Native.Nat.{◌+◌, ◌≤◌}
+use Rattle.text_names.specs.Table.{first_kept, count}
+use Rattle.text_names.proofs.Moves.{Moved}
 use Rattle.text_names.proofs.put.Given as goal
 
 abbrev pub invariant-loop-j : goal.invariant-loop-j

@@ -1,10 +1,8 @@
 -- `text_names::read_variables` meets its contract. The loop's invariant: the names before place i are read, and the table holds them.
-use mathlib.Core.Path.{◌≡◌, refl, ◌∙◌}
-use Prim.Native.Nat.{◌-◌}
+use mathlib.Core.Path.{refl, ◌∙◌}
 use native.Mathlib.Omega.{arith}
-use lib.ListN.{length}
 use Rattle.text_tokens.specs.Told.{Named, Told}
-use Rattle.text_names.proofs.Listing.{after_end, after_other, ReadBefore, read_none, read_more, read_closed, read_refused}
+use Rattle.text_names.proofs.Listing.{after_end, after_other, read_none, read_more, read_closed, read_refused}
 use Rattle.text_names.proofs.read_variables.Goals as goal
 
 pub loop-i-init : goal.loop-i-init

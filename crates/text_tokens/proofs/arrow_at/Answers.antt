@@ -1,6 +1,5 @@
 -- `text_tokens::arrow_at` meets its contract: what stands after the dash decides.
 use native.Mathlib.Omega.{arith}
-use borrow.Author.Rules.{rules}
 use Rattle.text_tokens.specs.Told.{Told}
 use Rattle.text_tokens.proofs.Places.{dash_last, arrow_found, dash_other}
 use Rattle.text_tokens.proofs.arrow_at.Goals as goal

@@ -1,6 +1,5 @@
 -- `text_tokens::character` meets its contract: a byte of a name is its character, and there is none past the text or at another byte.
 use mathlib.Core.Path.{sym, ◌∙◌}
-use borrow.Author.Rules.{rules}
 use Rattle.text_tokens.proofs.Places.{name_no_more}
 use Rattle.text_tokens.proofs.Names.{name_past, character_none, character_more}
 use Rattle.text_tokens.proofs.character.Goals as goal

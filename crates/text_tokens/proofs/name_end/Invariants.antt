@@ -1,12 +1,8 @@
 -- `text_tokens::name_end` meets its contract. The loop's invariant: what is left of the name from i on ends where the name ends.
-use mathlib.Core.Path.{◌≡◌, refl, sym, ap, ◌∙◌}
+use mathlib.Core.Path.{◌≡◌}
 use Prim.Native.Nat.{◌+◌, ◌-◌, ◌≤◌}
-use native.Mathlib.Omega.{arith}
-use borrow.Author.Rules.{rules}
-use borrow.Author.Tests.{not-true, not-false}
 use lib.ListN.{length}
 use Rattle.text_tokens.specs.Told.{name_at}
-use Rattle.text_tokens.proofs.Places.{name_at_end, name_more, name_no_more}
 use Rattle.text_tokens.proofs.name_end.Given as goal
 
 abbrev pub invariant-loop-i : goal.invariant-loop-i

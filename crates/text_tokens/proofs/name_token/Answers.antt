@@ -1,6 +1,5 @@
 -- `text_tokens::name_token` meets its contract: the name's length decides.
 use native.Mathlib.Omega.{arith}
-use borrow.Author.Rules.{rules}
 use Rattle.text_tokens.specs.Told.{Told}
 use Rattle.text_tokens.proofs.Places.{named_at, long_at}
 use Rattle.text_tokens.proofs.name_token.Goals as goal

@@ -1,14 +1,9 @@
 -- `text_tokens::same_name` meets its contract. The loop's invariant: the names are the same where what is left of them is.
-use mathlib.Core.Path.{◌≡◌, sym, ap, ◌∙◌}
-use Prim.Native.Nat.{◌+◌, ◌-◌, ◌≤◌, ◌<◌}
-use native.Mathlib.Nat.{add-zero}
-use native.Mathlib.Omega.{arith}
-use borrow.Author.Rules.{rules}
-use lib.Dec.{eqb}
+use mathlib.Core.Path.{◌≡◌}
+use Prim.Native.Nat.{◌+◌, ◌-◌, ◌≤◌}
 use lib.ListN.{length}
 use Rattle.texts.specs.Spelling.{same}
 use Rattle.text_tokens.specs.Told.{name_at, character}
-use Rattle.text_tokens.proofs.Names.{name_past, character_none, character_more, character_within, character_is, same_end, same_differ, same_more}
 use Rattle.text_tokens.proofs.same_name.Given as goal
 
 abbrev pub invariant-loop-c : goal.invariant-loop-c

@@ -1,11 +1,6 @@
 -- `text_tokens::skip_blanks` meets its contract. The loop's invariant: the tokens from i on are those from the start on.
-use mathlib.Core.Path.{◌≡◌, refl, sym, ◌∙◌}
-use Prim.Native.Nat.{◌-◌, ◌≤◌}
+use mathlib.Core.Path.{refl, sym, ◌∙◌}
 use native.Mathlib.Omega.{arith}
-use borrow.Author.Rules.{rules}
-use borrow.Author.Tests.{not-true, not-false}
-use lib.ListN.{length}
-use Rattle.text_tokens.specs.Told.{tokens_at}
 use Rattle.text_tokens.proofs.Places.{blank_at}
 use Rattle.text_tokens.proofs.skip_blanks.Goals as goal
 

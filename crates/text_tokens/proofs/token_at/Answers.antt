@@ -1,6 +1,5 @@
 -- `text_tokens::token_at` meets its contract: the byte decides, and what begins with it is told by the functions for names and arrows.
 use mathlib.Core.Path.{sym, ◌∙◌}
-use borrow.Author.Rules.{rules}
 use Rattle.text_tokens.specs.Told.{Told}
 use Rattle.text_tokens.proofs.Places.{open_at, close_at, comma_at, bad_at}
 use Rattle.text_tokens.proofs.token_at.Goals as goal

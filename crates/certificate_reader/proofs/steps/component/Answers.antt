@@ -4,7 +4,6 @@ use mathlib.Core.Bool.{true, ◌&&◌, not}
 use mathlib.Core.Logic.{⊎_elim}
 use Prim.Native.Nat.{◌≤◌}
 use native.Mathlib.Omega.{arith}
-use borrow.Author.Rules.{rules}
 use borrow.Author.Tests.{eq-eqb, ne_eqb, le-leb, lt-leb, lt-ltb}
 use lib.Dec.{ltb, eqb}
 use lib.ListN.{length}

@@ -1,8 +1,7 @@
 -- `certificate_reader::steps::is_marked_place` meets its contract: a place of the symbol, and then the symbol's flag.
 use mathlib.Core.Path.{sym, ◌∙◌}
 use native.Mathlib.Omega.{arith}
-use borrow.Author.Rules.{rules}
-use borrow.Author.Tests.{ltb-true, not-true, not-false}
+use borrow.Author.Tests.{ltb-true}
 use Rattle.rewriting.proofs.Basics.{and_left}
 use Rattle.certificate_reader.proofs.steps.is_marked_place.Goals as goal
 

@@ -1,6 +1,5 @@
 -- `certificate_reader::steps::is_place` meets its contract: its two tests are the symbol's and the place's.
 use native.Mathlib.Omega.{arith}
-use borrow.Author.Rules.{rules}
 use borrow.Author.Tests.{lt-ltb, le-ltb}
 use Rattle.certificate_reader.proofs.steps.is_place.Goals as goal
 

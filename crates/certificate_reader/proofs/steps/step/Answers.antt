@@ -1,7 +1,6 @@
 -- `certificate_reader::steps::step` meets its contract: the record's kind says which step it is, and the table that it may be made.
 use mathlib.Core.Path.{◌≡◌}
 use mathlib.Core.Bool.{true}
-use borrow.Author.Rules.{rules}
 use Rattle.records.specs.Order.{l_weighting}
 use Rattle.certificate_reader.proofs.Standing.{pair_may_stand, weight_may_stand, marked_may_stand, weighting_may_stand, only_weight, only_weighting, component_steps, pair_steps, weight_steps, marked_steps, weighting_steps}
 use Rattle.certificate_reader.proofs.steps.step.Goals as goal

@@ -1,5 +1,4 @@
 -- `checker::component::fails` meets its contract, case by case.
-use borrow.Author.Rules.{rules}
 use Rattle.checker.specs.Working.{fails}
 use Rattle.checker.proofs.component.fails.Goals as goal
 

@@ -1,5 +1,4 @@
 -- `checker::component::is_over` meets its contract, case by case.
-use borrow.Author.Rules.{rules}
 use Rattle.checker.specs.Working.{is_over}
 use Rattle.checker.proofs.component.is_over.Goals as goal
 

@@ -1,7 +1,6 @@
 -- `checker::component::judge_calls` meets its contract: the M records fill their cells of the table, the pairs are judged by it, and
 -- the same records clear them.
 use mathlib.Core.Path.{ap, ◌∙◌}
-use borrow.Author.Rules.{rules}
 use Rattle.checker.specs.Working.{chosen, own_base, other_base, OthersStay}
 use Rattle.checker.proofs.component.judge_calls.Goals as goal
 

@@ -3,7 +3,6 @@ use mathlib.Core.Path.{◌≡◌, sym, ◌∙◌, subst}
 use mathlib.Core.List.{List}
 use Prim.Native.Nat.{ℕ, ◌%◌}
 use native.Mathlib.Omega.{arith}
-use borrow.Author.Rules.{rules}
 use Rattle.records.specs.declared.Record.{Record}
 use Rattle.polynomials.specs.Polynomials.{Weighting}
 use Rattle.checker.specs.Working.{NumbersTell, ComponentAsked, UnweightedAsked, WeightedAsked}

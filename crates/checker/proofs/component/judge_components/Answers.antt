@@ -2,21 +2,18 @@
 -- stand from record `at` on, their number is the number of all, what is known of the rules under the last weights, and what the numbers
 -- of the pairs before them tell.
 use mathlib.Core.Path.{◌≡◌}
-use mathlib.Core.List.{[]}
-use Prim.Native.Nat.{◌-◌, ◌/◌, ◌≤◌, ◌<◌}
+use Prim.Native.Nat.{◌/◌, ◌≤◌, ◌<◌}
 use native.Mathlib.Omega.{arith}
-use borrow.Author.Rules.{rules}
 use lib.ListN.{length}
 use Rattle.records.specs.Answers.{number_of}
 use Rattle.records.proofs.Outcomes.{number_some}
 use Rattle.judging.specs.Judges.{plain}
 use Rattle.judging.specs.Judge.{components_refusal}
-use Rattle.weights.specs.Table.{MarkedIs}
 use Rattle.checker.specs.Working.{ComponentsAsked}
 use Rattle.checker.proofs.Positions.{header_within, pairs_read}
 use Rattle.checker.proofs.Known.{none_known}
 use Rattle.checker.proofs.Tables.{no_weights}
-use Rattle.checker.proofs.Components.{Left, all_left, none_left, all_told, there, room, asked, refuses, goes_on}
+use Rattle.checker.proofs.Components.{all_left, none_left, all_told, there, room, asked, refuses, goes_on}
 use Rattle.checker.proofs.component.judge_components.Goals as goal
 
 pub loop-i-init : goal.loop-i-init

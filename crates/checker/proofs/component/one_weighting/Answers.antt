@@ -4,10 +4,8 @@ use mathlib.Core.Path.{◌≡◌, refl, sym, ◌∙◌}
 use mathlib.Core.List.{List, []}
 use Prim.Native.Nat.{ℕ, ◌+◌}
 use native.Mathlib.Omega.{arith}
-use borrow.Author.Rules.{rules}
 use lib.ListN.{length}
 use Rattle.records.specs.declared.Refusal.TheVariants.{Heavy}
-use Rattle.polynomials.specs.Polynomials.{Weighting}
 use Rattle.weights.specs.declared.Verdict.TheVariants.{Holds}
 use Rattle.weights.specs.Table.{TableIs}
 use Rattle.checker.specs.declared.component.Turn.{Turn}

@@ -1,13 +1,10 @@
 -- `checker::component::weighted` meets its contract. The loop's invariant: the weightings before number `number` have passed, and what is
 -- known then of the others and of the numbers.
 use mathlib.Core.Path.{refl}
-use mathlib.Core.List.{[]}
-use Prim.Native.Nat.{◌+◌, ◌-◌, ◌/◌, ◌≤◌, ◌<◌}
+use Prim.Native.Nat.{◌/◌, ◌≤◌, ◌<◌}
 use native.Mathlib.Omega.{arith}
-use borrow.Author.Rules.{rules}
 use lib.ListN.{length}
-use Rattle.weights.specs.Table.{MarkedIs}
-use Rattle.checker.specs.Working.{OthersAsBefore, WeightedAsked}
+use Rattle.checker.specs.Working.{WeightedAsked}
 use Rattle.checker.proofs.Positions.{header_within}
 use Rattle.checker.proofs.Tallies.{none_changed}
 use Rattle.checker.proofs.Known.{refused_unknown}

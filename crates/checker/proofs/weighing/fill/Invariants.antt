@@ -1,19 +1,12 @@
 -- `checker::weighing::fill` meets its contract. The loop's invariant, for any weights that stand there: some of them are in the
 -- table, and the others stand from record `at` on.
-use mathlib.Core.Path.{◌≡◌, refl, sym, ap, ◌∙◌}
-use mathlib.Core.List.{List, [], ◌∷◌, ◌++◌, append_assoc, append-nil}
-use Prim.Native.Nat.{ℕ, ◌+◌, ◌*◌, ◌/◌, ◌-◌, ◌≤◌, ◌<◌}
-use native.Mathlib.Nat.{add-zero}
-use native.Mathlib.Omega.{arith}
-use lib.ListN.{length, set, length-append}
-use Rattle.rewriting.proofs.Basics.{Each, each_head, each_right}
-use Rattle.records.specs.declared.Record.{Record}
-use Rattle.records.specs.Records.{record_at}
+use mathlib.Core.Path.{◌≡◌}
+use mathlib.Core.List.{List, ◌++◌}
+use Prim.Native.Nat.{ℕ, ◌+◌, ◌-◌}
+use lib.ListN.{length}
 use Rattle.polynomials.specs.Polynomials.{Weight}
 use Rattle.weights.specs.Table.{CellsAre}
-use Rattle.checker.specs.Working.{WeightsAt, own_base, OthersStay, Filled}
-use Rattle.checker.proofs.Tables.{InTable, Rise, bases_small, others_stay, one_filled}
-use Rattle.checker.proofs.Runs.{GoesOn, fillable_small, none_at_end, none_at_other, goes_on}
+use Rattle.checker.specs.Working.{WeightsAt, own_base, OthersStay}
 use Rattle.checker.proofs.weighing.fill.Given as goal
 
 -- of the weights `ws`, `done` are in their cells, and `left` stand from record `at` on

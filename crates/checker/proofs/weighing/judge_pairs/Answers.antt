@@ -6,8 +6,7 @@ use mathlib.Core.Logic.{⊎_elim}
 use mathlib.Core.List.{List}
 use Prim.Native.Nat.{ℕ, ◌+◌, ◌*◌, ◌-◌, ◌/◌, ◌≤◌, ◌<◌}
 use native.Mathlib.Omega.{arith}
-use borrow.Author.Rules.{rules}
-use lib.ListN.{length, get_or, set}
+use lib.ListN.{length, get_or}
 use Rattle.rewriting.specs.Terms.{System}
 use Rattle.rewriting.specs.Pairs.{Pair, is_pair, arguments}
 use Rattle.records.specs.declared.Record.{Record}
@@ -21,12 +20,11 @@ use Rattle.weights.specs.Table.{TableIs, MarkedIs}
 use Rattle.weights.specs.Working.{Applied, SideSummed, pair_verdict}
 use Rattle.judging.specs.Judge.{call}
 use Rattle.partition.specs.Working.{AllPairs}
-use Rattle.checker.specs.declared.weighing.Tally.{Tally}
-use Rattle.checker.specs.Working.{PairsAsked, PresentAsked, ArgumentsWithin, OthersAsBefore, number_after}
+use Rattle.checker.specs.Working.{PairsAsked, PresentAsked, ArgumentsWithin}
 use Rattle.checker.proofs.FromStore.{weighting, pair_in_rules, left_applied, right_applied, call_answer}
 use Rattle.checker.proofs.Positions.{pair_here}
-use Rattle.checker.proofs.Tallies.{JudgedTo, no_pair_judged, pair_gone, pair_over, pair_judged, judged_all, numbers_told, none_changed, one_changed, changed_within}
-use Rattle.checker.proofs.weighing.judge_pairs.Invariants.{JudgedBefore, LeftKept}
+use Rattle.checker.proofs.Tallies.{no_pair_judged, pair_gone, pair_over, pair_judged, judged_all, numbers_told, none_changed, one_changed, changed_within}
+use Rattle.checker.proofs.weighing.judge_pairs.Invariants.{LeftKept}
 use Rattle.checker.proofs.weighing.judge_pairs.Goals as goal
 
 -- the same of equal ones

@@ -1,31 +1,18 @@
 -- `checker::weighing::judge_pairs` meets its contract. The loop's invariant: the pairs before pair i are judged or have left, the numbers
 -- from it on are as they were, and what is known of the left side of rule `last` is kept.
-use mathlib.Core.Path.{◌≡◌, refl, sym, ◌∙◌}
-use mathlib.Core.Bool.{true, false, true≢false}
-use mathlib.Core.Logic.{⊎_elim}
+use mathlib.Core.Path.{◌≡◌}
+use mathlib.Core.Bool.{true}
 use mathlib.Core.List.{List}
-use Prim.Native.Nat.{ℕ, ◌+◌, ◌*◌, ◌-◌, ◌/◌, ◌≤◌, ◌<◌}
-use native.Mathlib.Omega.{arith}
+use Prim.Native.Nat.{ℕ, ◌+◌, ◌*◌, ◌-◌, ◌≤◌}
 use borrow.Author.Rules.{rules}
-use lib.ListN.{length, get_or, set}
-use Rattle.rewriting.specs.Terms.{System}
-use Rattle.rewriting.specs.Pairs.{Pair, is_pair, arguments}
-use Rattle.records.specs.declared.Record.{Record}
-use Rattle.records.specs.Records.{record_at}
-use Rattle.pairs.specs.Listing.{a_pair, pair_record}
-use Rattle.weights.specs.declared.PairVerdict.{PairVerdict}
+use lib.ListN.{length, get_or}
 use Rattle.polynomials.specs.Polynomials.{Weight}
-use Rattle.polynomials.specs.Limit.{over}
-use Rattle.polynomials.specs.Judging.{call_over, call_rises, call_falls}
 use Rattle.weights.specs.Table.{TableIs, MarkedIs}
-use Rattle.weights.specs.Working.{Applied, SideSummed, pair_verdict}
-use Rattle.judging.specs.Judge.{call}
-use Rattle.partition.specs.Working.{AllPairs}
+use Rattle.weights.specs.Working.{SideSummed}
 use Rattle.checker.specs.declared.weighing.Tally.{Tally}
-use Rattle.checker.specs.Working.{PairsAsked, PresentAsked, ArgumentsWithin, OthersAsBefore, number_after}
-use Rattle.checker.proofs.FromStore.{weighting, pair_in_rules, left_applied, right_applied, call_answer}
-use Rattle.checker.proofs.Positions.{pair_here}
-use Rattle.checker.proofs.Tallies.{JudgedTo, no_pair_judged, pair_gone, pair_over, pair_judged, judged_all, numbers_told, none_changed, one_changed, changed_within}
+use Rattle.checker.specs.Working.{PresentAsked, ArgumentsWithin, OthersAsBefore}
+use Rattle.checker.proofs.FromStore.{weighting}
+use Rattle.checker.proofs.Tallies.{JudgedTo}
 use Rattle.checker.proofs.weighing.judge_pairs.Given as goal
 
 -- the sums are those of the left side of a rule; none is yet where it is 65,536

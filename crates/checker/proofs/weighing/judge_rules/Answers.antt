@@ -6,7 +6,6 @@ use mathlib.Core.List.{List, [], ◌∷◌}
 use Prim.Native.Nat.{ℕ, ◌+◌, ◌*◌, ◌-◌, ◌≤◌, ◌<◌}
 use native.Mathlib.Numerals.{add-one}
 use native.Mathlib.Omega.{arith}
-use borrow.Author.Rules.{rules}
 use lib.ListN.{get_or, drop, drop_of_length-le}
 use lib.Seq.{drop-cons}
 use Rattle.rewriting.specs.Terms.{System, rule, no_rule}
@@ -14,7 +13,6 @@ use Rattle.weights.specs.declared.Verdict.{Verdict}
 use Rattle.weights.specs.declared.Verdict.TheVariants.{Over, Fails, Holds}
 use Rattle.polynomials.specs.Polynomials.{Weight, Weighting}
 use Rattle.polynomials.specs.Judging.{rule_over, rule_rises}
-use Rattle.weights.specs.Table.{TableIs}
 use Rattle.weights.specs.Working.{Weighable, verdict}
 use Rattle.checker.specs.Working.{rules_verdict, RulesAsked}
 use Rattle.checker.proofs.FromStore.{weighting, left_weighable, right_weighable, rule_answer}

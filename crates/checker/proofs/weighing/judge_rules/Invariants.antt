@@ -1,24 +1,15 @@
 -- `checker::weighing::judge_rules` meets its contract. The loop's invariant: the rules from rule i on are left to judge.
-use mathlib.Core.Path.{◌≡◌}
-use mathlib.Core.Bool.{Bool, true, false, not}
-use mathlib.Core.Logic.{⊎_elim}
-use mathlib.Core.List.{List, [], ◌∷◌}
-use Prim.Native.Nat.{ℕ, ◌+◌, ◌*◌, ◌-◌, ◌≤◌, ◌<◌}
-use native.Mathlib.Numerals.{add-one}
-use native.Mathlib.Omega.{arith}
-use borrow.Author.Rules.{rules}
-use lib.ListN.{get_or, drop, drop_of_length-le}
-use lib.Seq.{drop-cons}
-use Rattle.rewriting.specs.Terms.{System, rule, no_rule}
-use Rattle.weights.specs.declared.Verdict.{Verdict}
-use Rattle.weights.specs.declared.Verdict.TheVariants.{Over, Fails, Holds}
-use Rattle.polynomials.specs.Polynomials.{Weight, Weighting}
-use Rattle.polynomials.specs.Judging.{rule_over, rule_rises}
+use mathlib.Core.Bool.{Bool}
+use mathlib.Core.List.{List}
+use Prim.Native.Nat.{ℕ, ◌-◌, ◌≤◌}
+use lib.ListN.{drop}
+use Rattle.rewriting.specs.Terms.{System}
+use Rattle.polynomials.specs.Polynomials.{Weight}
+use Rattle.polynomials.specs.Judging.{rule_over}
 use Rattle.weights.specs.Table.{TableIs}
-use Rattle.weights.specs.Working.{Weighable, verdict}
-use Rattle.checker.specs.Working.{rules_verdict, RulesAsked}
-use Rattle.checker.proofs.FromStore.{weighting, left_weighable, right_weighable, rule_answer}
-use Rattle.checker.proofs.Verdicts.{ToJudge, rules_hold, rules_asked, none_judged, some_failed, none_failed, one_over, one_fails, one_holds}
+use Rattle.checker.specs.Working.{RulesAsked}
+use Rattle.checker.proofs.FromStore.{weighting}
+use Rattle.checker.proofs.Verdicts.{ToJudge, rules_hold}
 use Rattle.checker.proofs.weighing.judge_rules.Given as goal
 
 -- rules from rule i on are left to judge

@@ -1,5 +1,4 @@
 -- `checker::weighing::noted` meets its contract: each verdict sets its own part of the tally.
-use borrow.Author.Rules.{rules}
 use Rattle.checker.specs.Working.{with_verdict}
 use Rattle.checker.proofs.weighing.noted.Goals as goal
 

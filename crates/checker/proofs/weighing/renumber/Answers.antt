@@ -2,7 +2,6 @@
 use mathlib.Core.Path.{◌≡◌, refl, sym, ap, ◌∙◌}
 use mathlib.Core.List.{List}
 use Prim.Native.Nat.{ℕ}
-use borrow.Author.Rules.{rules}
 use lib.ListN.{get_or, set}
 use lib.Seq.{set-get_or}
 use Rattle.weights.specs.declared.PairVerdict.{PairVerdict}

@@ -1,17 +1,12 @@
 -- `checker::weighing::same_weights` meets its contract. The loop's invariant, for any weights that stand at the two places: if those
 -- that are left of them are the same, so are all.
-use mathlib.Core.Path.{◌≡◌, refl, sym, ap, ◌∙◌}
-use mathlib.Core.List.{List, ◌∷◌}
-use Prim.Native.Nat.{ℕ, ◌+◌, ◌*◌, ◌/◌, ◌-◌, ◌≤◌, ◌<◌}
-use native.Mathlib.Omega.{arith}
-use borrow.Author.Rules.{rules}
+use mathlib.Core.Path.{◌≡◌}
+use mathlib.Core.List.{List}
+use Prim.Native.Nat.{ℕ, ◌+◌, ◌-◌, ◌<◌}
 use lib.ListN.{length}
-use Rattle.records.specs.declared.Record.{Record}
-use Rattle.records.specs.Records.{a_record, record_at, fields}
 use Rattle.records.specs.Order.{w_weight}
 use Rattle.polynomials.specs.Polynomials.{Weight}
-use Rattle.checker.specs.Working.{WeightsAt, SameWeights}
-use Rattle.checker.proofs.Runs.{GoesOn, none_at_end, none_at_other, goes_on}
+use Rattle.checker.specs.Working.{WeightsAt}
 use Rattle.checker.proofs.weighing.same_weights.Given as goal
 
 -- of the weights `vs` and `ws`, some are left from the records i and `at` on; where these are the same, all are

@@ -1,6 +1,5 @@
 -- `checker::weighing::store` meets its contract.
 use mathlib.Core.Path.{ap, ◌∙◌}
-use borrow.Author.Rules.{rules}
 use lib.ListN.{set}
 use Rattle.checker.proofs.Tables.{plain_cell, marked_cell}
 use Rattle.checker.proofs.weighing.store.Goals as goal

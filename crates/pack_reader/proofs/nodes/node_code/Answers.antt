@@ -1,5 +1,4 @@
 -- `pack_reader::nodes::node_code` meets its contract, test by test.
-use borrow.Author.Rules.{rules}
 use Rattle.terms.specs.Kept.{code}
 use Rattle.packs.specs.PackReading.{node_zeros, node_of}
 use Rattle.pack_reader.specs.Stored.{node_outcome, coded}

@@ -7,8 +7,7 @@ use Prim.Native.Nat.{ℕ, suc, ◌+◌, ◌*◌, ◌-◌, ◌/◌, ◌≤◌, �
 use native.Mathlib.Omega.{arith}
 use native.Mathlib.Nat.{add-zero, sub-zero}
 use native.Mathlib.Numerals.{add-one}
-use borrow.Author.Rules.{rules}
-use lib.ListN.{length, take, drop, set, length-set, length-drop, length-append, drop_of_length-le}
+use lib.ListN.{length, drop, set, length-set, length-drop, length-append, drop_of_length-le}
 use lib.Seq.{drop-set-add, take-suc-set, take-set-le}
 use Rattle.records.specs.declared.Record.{Record}
 use Rattle.records.specs.declared.Answer.{Answer}
@@ -25,7 +24,7 @@ use Rattle.records.proofs.Table.{kind_of}
 use Rattle.terms.specs.Sides.{Node}
 use Rattle.terms.specs.Kept.{code, codes, Kept}
 use Rattle.packs.proofs.Places.{Inside, at_rule, inside_row, inside_next}
-use Rattle.pack_reader.specs.Stored.{Run, node_outcome, coded, more_run, node_steps, SameBefore, NodesRead}
+use Rattle.pack_reader.specs.Stored.{Run, node_outcome, coded, more_run, node_steps, NodesRead}
 use Rattle.pack_reader.proofs.Wanted.{found_at, stray_at}
 use Rattle.pack_reader.proofs.NodeSteps.{Small, outcome_small, code_small, code_row, outcome_row, coded_passed, coded_refused, codes_append, steps_stray, steps_refused, steps_read, steps_end, with_nodes, with_none, with_more}
 use Rattle.pack_reader.proofs.nodes.read_nodes.Invariants.{SoFar, steps_left}

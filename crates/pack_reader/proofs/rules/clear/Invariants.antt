@@ -1,11 +1,7 @@
 -- `pack_reader::rules::clear` meets its contract. The loop's invariant: what was passed is zeros.
-use mathlib.Core.Path.{◌≡◌, refl, sym, ◌∙◌}
-use mathlib.Core.List.{List}
-use Prim.Native.Nat.{ℕ, ◌+◌, ◌-◌, ◌≤◌, ◌<◌}
-use native.Mathlib.Numerals.{add-one}
-use native.Mathlib.Omega.{arith}
-use lib.ListN.{length, take, set, replicate, replicate-append-replicate, length-set}
-use lib.Seq.{take-suc-set, take_all}
+use mathlib.Core.Path.{◌≡◌}
+use Prim.Native.Nat.{◌-◌, ◌≤◌}
+use lib.ListN.{length, take, replicate}
 use Rattle.pack_reader.proofs.rules.clear.Given as goal
 
 abbrev pub invariant-loop-f : goal.invariant-loop-f

@@ -1,9 +1,8 @@
 -- `pack_reader::rules::flag_defined` meets its contract. The loop's invariant: the flags are those of the rules passed.
 use mathlib.Core.Path.{◌≡◌, ◌∙◌}
 use mathlib.Core.Logic.{⊎_elim}
-use Prim.Native.Nat.{◌+◌, ◌*◌, ◌-◌, ◌≤◌}
+use Prim.Native.Nat.{◌+◌, ◌*◌}
 use native.Mathlib.Omega.{arith}
-use borrow.Author.Rules.{rules}
 use lib.ListN.{length, get_or, length-set, length-replicate}
 use Rattle.pack_reader.specs.Stored.{Flagged}
 use Rattle.pack_reader.proofs.Flags.{flagged_none, flagged_more, flagged_same}

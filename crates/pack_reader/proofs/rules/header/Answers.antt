@@ -1,5 +1,4 @@
 -- `pack_reader::rules::header` meets its contract, test by test.
-use borrow.Author.Rules.{rules}
 use Rattle.packs.specs.PackReading.{side_count}
 use Rattle.pack_reader.specs.Stored.{rule_header}
 use Rattle.pack_reader.proofs.Tests.{tests}

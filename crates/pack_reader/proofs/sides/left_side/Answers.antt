@@ -1,16 +1,14 @@
 -- `pack_reader::sides::left_side` meets its contract. The loop's invariant: what is left is balanced for the terms still wanted
 -- exactly if the whole is for one, and the variables seen are those of the nodes passed.
-use mathlib.Core.Path.{◌≡◌, ap, refl, ◌∙◌}
+use mathlib.Core.Path.{◌≡◌, refl, ◌∙◌}
 use mathlib.Core.Logic.{⊎_elim}
 use mathlib.Core.Bool.{Bool, true, false≢true}
 use mathlib.Core.List.{List}
 use Prim.Native.Nat.{ℕ, ◌+◌, ◌-◌, ◌≤◌, ◌<◌}
 use native.Mathlib.Omega.{arith}
 use lib.ListN.{length, get_or, set, length-set}
-use Rattle.terms.specs.Kept.{part}
 use Rattle.terms.proofs.Parts.{part_none}
-use Rattle.pack_reader.specs.Stored.{SeenIn}
-use Rattle.pack_reader.proofs.OneSide.{Wanting, all_read, too_many, symbol_read, variable_read, part_last}
+use Rattle.pack_reader.proofs.OneSide.{all_read, too_many, symbol_read, variable_read, part_last}
 use Rattle.pack_reader.proofs.Seen.{seen_none, seen_same, seen_more}
 use Rattle.pack_reader.proofs.sides.left_side.Invariants.{Flags}
 use Rattle.pack_reader.proofs.sides.left_side.Goals as goal

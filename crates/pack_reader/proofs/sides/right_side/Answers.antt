@@ -2,16 +2,15 @@
 -- exactly if the whole is for one, and has only variables seen, with the nodes passed, exactly if the whole has.
 use mathlib.Core.Path.{◌≡◌, refl, sym, ◌∙◌}
 use mathlib.Core.Logic.{⊎_elim}
-use mathlib.Core.Bool.{Bool, true, false, ◌&&◌, false≢true, and-false, and-true}
+use mathlib.Core.Bool.{Bool, true, false, false≢true, and-false, and-true}
 use mathlib.Core.List.{List}
 use Prim.Native.Nat.{ℕ, ◌+◌, ◌-◌, ◌≤◌, ◌<◌}
 use native.Mathlib.Omega.{arith}
-use borrow.Author.Tests.{not-true, not-false}
 use lib.ListN.{length, get_or}
 use Rattle.terms.specs.Kept.{part}
 use Rattle.terms.proofs.Parts.{part_none, part_more}
 use Rattle.pack_reader.specs.Stored.{all_seen}
-use Rattle.pack_reader.proofs.OneSide.{Wanting, all_read, too_many, symbol_read, variable_read}
+use Rattle.pack_reader.proofs.OneSide.{all_read, too_many, symbol_read, variable_read}
 use Rattle.pack_reader.proofs.Seen.{seen_symbol, seen_variable, seen_neither}
 use Rattle.pack_reader.proofs.sides.right_side.Invariants.{Closed}
 use Rattle.pack_reader.proofs.sides.right_side.Goals as goal

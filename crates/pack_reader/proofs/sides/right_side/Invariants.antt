@@ -1,18 +1,12 @@
 -- `pack_reader::sides::right_side` meets its contract. The loop's invariant: what is left is balanced for the terms still wanted
 -- exactly if the whole is for one, and has only variables seen, with the nodes passed, exactly if the whole has.
-use mathlib.Core.Path.{◌≡◌, refl, sym, ◌∙◌}
-use mathlib.Core.Logic.{⊎_elim}
-use mathlib.Core.Bool.{Bool, true, false, ◌&&◌, false≢true, and-false, and-true}
+use mathlib.Core.Path.{◌≡◌}
+use mathlib.Core.Bool.{Bool, ◌&&◌}
 use mathlib.Core.List.{List}
-use Prim.Native.Nat.{ℕ, ◌+◌, ◌-◌, ◌≤◌, ◌<◌}
-use native.Mathlib.Omega.{arith}
-use borrow.Author.Tests.{not-true, not-false}
-use lib.ListN.{length, get_or}
+use Prim.Native.Nat.{ℕ, ◌-◌}
 use Rattle.terms.specs.Kept.{part}
-use Rattle.terms.proofs.Parts.{part_none, part_more}
 use Rattle.pack_reader.specs.Stored.{all_seen}
-use Rattle.pack_reader.proofs.OneSide.{Wanting, all_read, too_many, symbol_read, variable_read}
-use Rattle.pack_reader.proofs.Seen.{seen_symbol, seen_variable, seen_neither}
+use Rattle.pack_reader.proofs.OneSide.{Wanting}
 use Rattle.pack_reader.proofs.sides.right_side.Given as goal
 
 abbrev pub Closed : (sn : List Bool) (ns : List ℕ) (from to i : ℕ) → Bool → Type 0

@@ -1,5 +1,4 @@
 -- `pack_reader::symbols::arity_of` meets its contract, test by test.
-use borrow.Author.Rules.{rules}
 use Rattle.pack_reader.specs.Stored.{arity_outcome}
 use Rattle.pack_reader.proofs.Tests.{tests}
 use Rattle.pack_reader.proofs.symbols.arity_of.Goals as goal

@@ -3,10 +3,9 @@
 use mathlib.Core.Path.{◌≡◌, refl, sym, ap, ◌∙◌}
 use mathlib.Core.Bool.{true, false}
 use mathlib.Core.List.{List, [], ◌∷◌, ◌++◌, append-nil}
-use Prim.Native.Nat.{ℕ, ◌+◌, ◌*◌, ◌-◌, ◌/◌, ◌≤◌, ◌<◌}
+use Prim.Native.Nat.{ℕ, ◌+◌, ◌*◌, ◌/◌, ◌≤◌, ◌<◌}
 use native.Mathlib.Omega.{arith}
 use native.Mathlib.Numerals.{add-one}
-use borrow.Author.Rules.{rules}
 use lib.ListN.{length, take, drop, set, length-set, drop_of_length-le}
 use lib.Seq.{take-suc-set, length-take-le}
 use Rattle.records.specs.declared.Record.{Record}
@@ -16,7 +15,7 @@ use Rattle.records.specs.declared.Wanted.TheVariants.{Found, Stray}
 use Rattle.records.specs.Answers.{answer_outcome}
 use Rattle.records.specs.Outcomes.{Outcome, refused, passed, after}
 use Rattle.records.specs.Records.{all_records}
-use Rattle.records.specs.Order.{s_symbol, rows, index, may_follow}
+use Rattle.records.specs.Order.{s_symbol, index, may_follow}
 use Rattle.records.specs.Wanted.{wanted_at}
 use Rattle.records.proofs.Bytes.{drop_records, length_of_records}
 use Rattle.packs.specs.PackReading.{most_symbols, most_arity}

@@ -1,14 +1,7 @@
 -- `pair_finder::arcs::all_agree` meets its contract. The loop's invariant: the answer is that of the meetings still to come.
-use mathlib.Core.Path.{sym}
-use Prim.Native.Nat.{◌-◌, ◌<◌}
-use native.Mathlib.Omega.{arith}
-use borrow.Author.Tests.{not-true, not-false}
-use lib.ListN.{length}
-use Rattle.terms.specs.Kept.{TermAt}
-use Rattle.pairs.specs.Arcs.{all_agree}
+use Prim.Native.Nat.{◌-◌}
 use Rattle.pair_finder.specs.Walking.{Reaching}
-use Rattle.pair_finder.proofs.Kept.{term_passed}
-use Rattle.pair_finder.proofs.Agreeing.{owed_at_end, still_reaching, next_later, none_left, meets, owed, other_within, met_there, meeting_passed, test_all, ToAgreeAll, agreeing_all, held_against, not_all, all_so_far}
+use Rattle.pair_finder.proofs.Agreeing.{ToAgreeAll}
 use Rattle.pair_finder.proofs.arcs.all_agree.Given as goal
 
 abbrev pub invariant-loop-i : goal.invariant-loop-i

@@ -1,7 +1,6 @@
 -- `pair_finder::arcs::arc_from` meets its contract, as `arc_to` does, with the end of the right side looked for first.
 use mathlib.Core.Path.{sym, ◌∙◌}
 use native.Mathlib.Omega.{arith}
-use borrow.Author.Tests.{not-true, not-false}
 use Rattle.pair_finder.proofs.Asked.{right_at, not_reached}
 use Rattle.pair_finder.proofs.arcs.arc_from.Goals as goal
 

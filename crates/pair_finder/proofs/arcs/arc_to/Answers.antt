@@ -1,6 +1,5 @@
 -- `pair_finder::arcs::arc_to` meets its contract: no arc runs where document 01's does not, and where that runs what meets decides.
 use mathlib.Core.Path.{sym, ◌∙◌}
-use borrow.Author.Tests.{not-true, not-false}
 use Rattle.pair_finder.proofs.Asked.{not_reached}
 use Rattle.pair_finder.proofs.arcs.arc_to.Goals as goal
 

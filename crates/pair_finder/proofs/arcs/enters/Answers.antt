@@ -1,6 +1,4 @@
 -- `pair_finder::arcs::enters` meets its contract: two bytes that are the same, and no jump.
-use mathlib.Core.Path.{◌≡◌}
-use borrow.Author.Rules.{rules}
 use borrow.Author.Tests.{eq-eqb, ne_eqb}
 use Rattle.pair_finder.specs.Walking.{enters}
 use Rattle.pair_finder.proofs.arcs.enters.Goals as goal

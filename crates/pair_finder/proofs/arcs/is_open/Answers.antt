@@ -1,5 +1,4 @@
 -- `pair_finder::arcs::is_open` meets its contract, test by test.
-use borrow.Author.Rules.{rules}
 use borrow.Author.Tests.{le-leb, lt-leb}
 use Rattle.pair_finder.specs.Walking.{is_open}
 use Rattle.pair_finder.proofs.arcs.is_open.Goals as goal

@@ -1,8 +1,7 @@
 -- `pair_finder::arcs::jumps` meets its contract, test by test.
 use mathlib.Core.Path.{◌≡◌}
 use mathlib.Core.Bool.{true, false}
-use borrow.Author.Rules.{rules}
-use borrow.Author.Tests.{le-leb, lt-leb, not-true, not-false}
+use borrow.Author.Tests.{le-leb, lt-leb}
 use Rattle.pair_finder.specs.Walking.{jumps}
 use Rattle.pair_finder.proofs.arcs.jumps.Goals as goal
 

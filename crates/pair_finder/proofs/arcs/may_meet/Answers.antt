@@ -3,18 +3,16 @@
 use mathlib.Core.Path.{◌≡◌, refl, sym, ◌∙◌}
 use mathlib.Core.Bool.{Bool, true, false, not, true≢false}
 use mathlib.Core.List.{List}
-use Prim.Native.Nat.{ℕ, ◌-◌}
+use Prim.Native.Nat.{ℕ}
 use native.Mathlib.Omega.{arith}
-use borrow.Author.Rules.{rules}
-use borrow.Author.Tests.{eqb-true, eq-eqb, not-true, not-false}
+use borrow.Author.Tests.{eqb-true, eq-eqb, not-true}
 use lib.Dec.{eqb}
 use Rattle.rewriting.proofs.Basics.{and_left, and_right}
 use Rattle.terms.specs.Kept.{TermAt}
-use Rattle.pairs.specs.Arcs.{may_meet}
-use Rattle.pair_finder.specs.Walking.{jumps, enters, Walkable}
+use Rattle.pair_finder.specs.Walking.{jumps, enters}
 use Rattle.pair_finder.proofs.Kept.{term_within, term_passed}
-use Rattle.pair_finder.proofs.Walks.{ToWalk, at_hand, first_there, other_there}
-use Rattle.pair_finder.proofs.Comparing.{Answered, compare_ends, compare_jumps, compare_stops, compare_enters}
+use Rattle.pair_finder.proofs.Walks.{at_hand, first_there, other_there}
+use Rattle.pair_finder.proofs.Comparing.{compare_ends, compare_jumps, compare_stops, compare_enters}
 use Rattle.pair_finder.proofs.arcs.may_meet.Goals as goal
 
 -- the walk enters two terms with the same byte for a root, where it does not jump

@@ -1,13 +1,9 @@
 -- `pair_finder::arcs::next_meeting` meets its contract. The loop's invariant: all that is met is met in what is still to be walked.
-use mathlib.Core.Path.{refl, sym, ◌∙◌}
 use Prim.Native.Nat.{◌-◌, ◌≤◌}
-use native.Mathlib.Omega.{arith}
-use Rattle.terms.specs.Kept.{TermAt}
 use Rattle.pairs.specs.Arcs.{meetings}
 use Rattle.pair_finder.specs.Walking.{Reaching}
-use Rattle.pair_finder.proofs.Kept.{term_within, term_passed}
-use Rattle.pair_finder.proofs.Walks.{ToWalk, at_hand, first_there, other_there}
-use Rattle.pair_finder.proofs.Gathering.{Met, gather_skips, gather_enters, walk_comes}
+use Rattle.pair_finder.proofs.Walks.{ToWalk}
+use Rattle.pair_finder.proofs.Gathering.{Met}
 use Rattle.pair_finder.proofs.arcs.next_meeting.Given as goal
 
 abbrev pub invariant-loop-i : goal.invariant-loop-i

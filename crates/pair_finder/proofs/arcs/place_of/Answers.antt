@@ -1,10 +1,9 @@
 -- `pair_finder::arcs::place_of` meets its contract: its three tests are those that decide a pair of a pack that was read.
 use Prim.Native.Nat.{◌+◌, ◌*◌, ◌<◌}
 use native.Mathlib.Omega.{arith}
-use borrow.Author.Rules.{rules}
 use borrow.Author.Tests.{lt-ltb, le-ltb}
 use lib.ListN.{length, get_or}
-use Rattle.pair_finder.specs.Walking.{is_defined, PlaceAnswer}
+use Rattle.pair_finder.specs.Walking.{PlaceAnswer}
 use Rattle.pair_finder.proofs.FromStore.{stored_place}
 use Rattle.pair_finder.proofs.arcs.place_of.Goals as goal
 

@@ -1,15 +1,11 @@
 -- `pair_finder::listing::count_in` meets its contract. The loop's invariant: what is counted and the places left are as many as the
 -- places of the whole side.
-use mathlib.Core.Path.{◌≡◌, sym, ap, ◌∙◌}
+use mathlib.Core.Path.{sym, ap, ◌∙◌}
 use mathlib.Core.Logic.{⊎_elim}
-use Prim.Native.Nat.{◌+◌, ◌-◌, ◌≤◌}
 use native.Mathlib.Nat.{zero-add}
 use native.Mathlib.Omega.{arith}
-use borrow.Author.Rules.{rules}
 use lib.ListN.{length}
-use Rattle.terms.specs.Kept.{part}
-use Rattle.pair_finder.specs.Walking.{is_defined, places}
-use Rattle.pair_finder.proofs.DefinedPlaces.{places_left, none_left, defined_left, undefined_left, all_left}
+use Rattle.pair_finder.proofs.DefinedPlaces.{none_left, defined_left, undefined_left, all_left}
 use Rattle.pair_finder.proofs.listing.count_in.Goals as goal
 
 pub loop-i-init : goal.loop-i-init

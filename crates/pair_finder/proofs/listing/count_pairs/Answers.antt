@@ -1,9 +1,9 @@
 -- `pair_finder::listing::count_pairs` meets its contract. The loop's invariant: the pairs of the first i rules are counted, and they
 -- are at most 32 a rule.
 use mathlib.Core.Path.{◌≡◌, refl}
-use Prim.Native.Nat.{◌+◌, ◌*◌, ◌-◌, ◌≤◌}
+use Prim.Native.Nat.{◌+◌, ◌*◌, ◌≤◌}
 use native.Mathlib.Omega.{arith}
-use lib.ListN.{length, get_or}
+use lib.ListN.{get_or}
 use Rattle.pair_finder.specs.Walking.{first_pairs}
 use Rattle.pair_finder.proofs.DefinedPlaces.{part_places_few, rule_pairs_long, first_more_long}
 use Rattle.pair_finder.proofs.listing.count_pairs.Goals as goal

@@ -1,5 +1,4 @@
 -- `pair_finder::listing::is_defined` meets its contract: a symbol's byte is looked up, a variable's has no flag.
-use borrow.Author.Rules.{rules}
 use borrow.Author.Tests.{lt-ltb, le-ltb}
 use Rattle.pair_finder.specs.Walking.{is_defined}
 use Rattle.pair_finder.proofs.listing.is_defined.Goals as goal

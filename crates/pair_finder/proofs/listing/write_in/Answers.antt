@@ -6,9 +6,7 @@ use mathlib.Core.Logic.{⊎_elim}
 use mathlib.Core.List.{List, [], ◌∷◌, ◌++◌, map, append_assoc, append-nil}
 use Prim.Native.Nat.{ℕ, ◌+◌, ◌*◌, ◌-◌, ◌≤◌, ◌<◌}
 use native.Mathlib.Omega.{arith}
-use borrow.Author.Rules.{rules}
 use lib.ListN.{length, get_or, take, drop, length-append, length-map}
-use Rattle.rewriting.specs.Pairs.{Pair}
 use Rattle.records.specs.Records.{record_bytes}
 use Rattle.terms.specs.Kept.{part}
 use Rattle.pairs.specs.Listing.{a_pair, pair_record}

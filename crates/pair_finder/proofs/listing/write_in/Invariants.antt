@@ -1,20 +1,14 @@
 -- `pair_finder::listing::write_in` meets its contract. The loop's invariant: the records of some pairs are written, and these with
 -- the pairs at the places left are all pairs of the side.
-use mathlib.Core.Path.{◌≡◌, refl, sym, ap, ◌∙◌}
-use mathlib.Core.Bool.{true, false}
-use mathlib.Core.Logic.{⊎_elim}
-use mathlib.Core.List.{List, [], ◌∷◌, ◌++◌, map, append_assoc, append-nil}
-use Prim.Native.Nat.{ℕ, ◌+◌, ◌*◌, ◌-◌, ◌≤◌, ◌<◌}
-use native.Mathlib.Omega.{arith}
-use borrow.Author.Rules.{rules}
-use lib.ListN.{length, get_or, take, drop, length-append, length-map}
+use mathlib.Core.Path.{◌≡◌}
+use mathlib.Core.List.{List, ◌++◌, map}
+use Prim.Native.Nat.{ℕ, ◌-◌, ◌≤◌}
+use lib.ListN.{length}
 use Rattle.rewriting.specs.Pairs.{Pair}
-use Rattle.records.specs.Records.{record_bytes}
 use Rattle.terms.specs.Kept.{part}
-use Rattle.pairs.specs.Listing.{a_pair, pair_record}
-use Rattle.pair_finder.specs.Walking.{is_defined, places, Written}
-use Rattle.pair_finder.proofs.DefinedPlaces.{places_left, none_left, defined_left, undefined_left, all_left}
-use Rattle.pair_finder.proofs.Written.{written_none, written_one, written_then}
+use Rattle.pairs.specs.Listing.{a_pair}
+use Rattle.pair_finder.specs.Walking.{places, Written}
+use Rattle.pair_finder.proofs.DefinedPlaces.{places_left}
 use Rattle.pair_finder.proofs.listing.write_in.Given as goal
 
 -- the pairs that are written, and that the others are those at the places left

@@ -1,13 +1,8 @@
 -- `pair_finder::listing::write_pairs` meets its contract. The loop's invariant: the records of the first i rules' pairs are written.
-use mathlib.Core.Path.{◌≡◌, refl, ◌∙◌}
-use mathlib.Core.List.{List}
-use Prim.Native.Nat.{ℕ, ◌+◌, ◌*◌, ◌-◌, ◌≤◌, ◌<◌}
-use native.Mathlib.Nat.{zero-add}
-use native.Mathlib.Omega.{arith}
+use mathlib.Core.Path.{◌≡◌}
+use Prim.Native.Nat.{◌-◌, ◌≤◌}
 use lib.ListN.{length}
-use Rattle.pair_finder.specs.Walking.{rule_pairs, first_pairs, Written}
-use Rattle.pair_finder.proofs.DefinedPlaces.{rule_pairs_long, first_more, first_more_long, first_fewer}
-use Rattle.pair_finder.proofs.Written.{written_none, written_then}
+use Rattle.pair_finder.specs.Walking.{first_pairs, Written}
 use Rattle.pair_finder.proofs.listing.write_pairs.Given as goal
 
 abbrev pub invariant-loop-i : goal.invariant-loop-i
