@@ -5,8 +5,6 @@ use mathlib.Core.List.{List, [], ◌∷◌, ◌++◌, append_assoc, append-nil}
 use mathlib.Core.Option.{none, some}
 use Prim.Native.Nat.{ℕ, ◌≤◌}
 use native.Mathlib.Omega.{arith}
-use types.Run.{OneOf, miss}
-use denote.Enum.Declared.{tag_of}
 use lib.ListN.{length, get_or}
 use Rattle.records.specs.declared.Answer.TheVariants.{Passed, Refused as AnswerRefused}
 use Rattle.records.specs.declared.Refusal.TheVariants.{BadText}
@@ -15,7 +13,6 @@ use Rattle.texts.specs.Spelling.{same, among}
 use Rattle.texts.specs.TextReading.{listed, after_names}
 use Rattle.text_tokens.specs.declared.Token.{Token as ToldToken}
 use Rattle.text_tokens.specs.declared.Token.TheVariants.{Name as ToldName, Open, Close, Comma, Arrow, Bad, End}
-use Rattle.text_tokens.specs.contracts.Token.{the_type}
 use Rattle.text_tokens.specs.Told.{name_at, tokens_at, Moves, Named, Told}
 use Rattle.text_tokens.proofs.Places.{tokens_at_end}
 use Rattle.text_names.specs.Table.{Holds, TableEmpty, VariablesRead}
@@ -38,9 +35,9 @@ module _ (text : List ℕ) (i : ℕ) where
   listed_name s e m = rw m.moves.is
 
   -- no name is next: the code's keys of the other tokens
-  pub listed_over : (t : ToldToken) → Told text i t → OneOf (1 ∷ 2 ∷ 3 ∷ 4 ∷ 5 ∷ 6 ∷ []) (tag_of the_type t) → listed (tokens_at text i) ≡ []
+  pub listed_over : (t : ToldToken) → Told text i t → ((s e : ℕ) → t ≡ ToldName s e → ⊥) → listed (tokens_at text i) ≡ []
   unfolding Told listed
-  listed_over (ToldName s e) m k = absurd (miss (1 ∷ 2 ∷ 3 ∷ 4 ∷ 5 ∷ 6 ∷ []) 0 tt k)
+  listed_over (ToldName s e) m k = absurd (k s e refl)
   listed_over (Open e) m k = rw m.is
   listed_over (Close e) m k = rw m.is
   listed_over (Comma e) m k = rw m.is
@@ -79,15 +76,15 @@ module _ (text : List ℕ) (i : ℕ) where
   after_end past within = rw (at_end past within)
 
   -- neither a name nor a closing parenthesis is next
-  pub after_other : (t : ToldToken) → Told text i t → OneOf (1 ∷ 3 ∷ 4 ∷ 5 ∷ 6 ∷ []) (tag_of the_type t) → after_names (tokens_at text i) ≡ none
+  pub after_other : (t : ToldToken) → Told text i t → ((s e : ℕ) → t ≡ ToldName s e → ⊥) → ((e : ℕ) → t ≡ Close e → ⊥) → after_names (tokens_at text i) ≡ none
   unfolding Told after_names
-  after_other (ToldName s e) m k = absurd (miss (1 ∷ 3 ∷ 4 ∷ 5 ∷ 6 ∷ []) 0 tt k)
-  after_other (Open e) m k = rw m.is
-  after_other (Close e) m k = absurd (miss (1 ∷ 3 ∷ 4 ∷ 5 ∷ 6 ∷ []) 2 tt k)
-  after_other (Comma e) m k = rw m.is
-  after_other (Arrow e) m k = rw m.is
-  after_other Bad m k = rw m.is
-  after_other End m k = rw m
+  after_other (ToldName s e) m k l = absurd (k s e refl)
+  after_other (Open e) m k l = rw m.is
+  after_other (Close e) m k l = absurd (l e refl)
+  after_other (Comma e) m k l = rw m.is
+  after_other (Arrow e) m k l = rw m.is
+  after_other Bad m k l = rw m.is
+  after_other End m k l = rw m
 
 -- WHAT IS READ before place i: the names, and they are kept
 pub record ReadBefore (text : List ℕ) (at : ℕ) (table : List ℕ) (i : ℕ) : Type 0 where

@@ -1,13 +1,10 @@
 -- What the first token tells: its kind is the variant that the code finds.
 use mathlib.Core.Path.{◌≡◌, refl, sym, ap, ◌∙◌}
-use mathlib.Core.Bool.{true, not, false≢true}
+use mathlib.Core.Bool.{true, false≢true}
 use mathlib.Core.List.{List, [], ◌∷◌, ◌++◌, append_assoc}
 use Prim.Native.Nat.{ℕ}
 use native.Mathlib.Omega.{arith}
 use denote.Enum.Declared.{tag_of}
-use lib.Dec.{T}
-use mir.Val.{has_key}
-use types.Run.{OneOf, miss}
 use Rattle.texts.specs.Tokens.{Token, name, opens, closes, comma, arrow, bad}
 use Rattle.texts.specs.Spelling.{bare, applied, nil, cons, TermPhrase, ListPhrase, parted, spelled}
 use Rattle.text_tokens.specs.Told.{tokens_at, Moves, Named, Told}
@@ -36,10 +33,55 @@ told_kind text at (Arrow e) d = ap kind d.is
 told_kind text at Bad d = ap kind d.is
 told_kind text at End d = ap kind d
 
--- the code found another kind
-pub other_kind : (text : List ℕ) (at : ℕ) (t : ToldToken) → Told text at t → (ks : List ℕ) (k : ℕ) → T (not (has_key ks k)) → OneOf ks (tag_of the_type t)
-    → kind (tokens_at text at) ≡ k → ⊥
-other_kind text at t d ks k h one e = miss ks k h (rw (sym (told_kind text at t d) ∙ e) at one)
+-- the code found no such token
+module _ (text : List ℕ) (at : ℕ) (t : ToldToken) (told : Told text at t) where
+  pub no_name : ((s e : ℕ) → t ≡ ToldName s e → ⊥) → kind (tokens_at text at) ≡ 0 → ⊥
+  no_name other is = not_such t other (sym (told_kind text at t told) ∙ is)
+    where
+      not_such : (u : ToldToken) → ((s e : ℕ) → u ≡ ToldName s e → ⊥) → tag_of the_type u ≡ 0 → ⊥
+      not_such (ToldName s e) h k = h s e refl
+      not_such (Open e) h k = omega arith
+      not_such (Close e) h k = omega arith
+      not_such (Comma e) h k = omega arith
+      not_such (Arrow e) h k = omega arith
+      not_such Bad h k = omega arith
+      not_such End h k = omega arith
+
+  pub no_open : ((e : ℕ) → t ≡ Open e → ⊥) → kind (tokens_at text at) ≡ 1 → ⊥
+  no_open other is = not_such t other (sym (told_kind text at t told) ∙ is)
+    where
+      not_such : (u : ToldToken) → ((e : ℕ) → u ≡ Open e → ⊥) → tag_of the_type u ≡ 1 → ⊥
+      not_such (ToldName s e) h k = omega arith
+      not_such (Open e) h k = h e refl
+      not_such (Close e) h k = omega arith
+      not_such (Comma e) h k = omega arith
+      not_such (Arrow e) h k = omega arith
+      not_such Bad h k = omega arith
+      not_such End h k = omega arith
+
+  pub no_close : ((e : ℕ) → t ≡ Close e → ⊥) → kind (tokens_at text at) ≡ 2 → ⊥
+  no_close other is = not_such t other (sym (told_kind text at t told) ∙ is)
+    where
+      not_such : (u : ToldToken) → ((e : ℕ) → u ≡ Close e → ⊥) → tag_of the_type u ≡ 2 → ⊥
+      not_such (ToldName s e) h k = omega arith
+      not_such (Open e) h k = omega arith
+      not_such (Close e) h k = h e refl
+      not_such (Comma e) h k = omega arith
+      not_such (Arrow e) h k = omega arith
+      not_such Bad h k = omega arith
+      not_such End h k = omega arith
+
+  pub no_comma : ((e : ℕ) → t ≡ Comma e → ⊥) → kind (tokens_at text at) ≡ 3 → ⊥
+  no_comma other is = not_such t other (sym (told_kind text at t told) ∙ is)
+    where
+      not_such : (u : ToldToken) → ((e : ℕ) → u ≡ Comma e → ⊥) → tag_of the_type u ≡ 3 → ⊥
+      not_such (ToldName s e) h k = omega arith
+      not_such (Open e) h k = omega arith
+      not_such (Close e) h k = omega arith
+      not_such (Comma e) h k = h e refl
+      not_such (Arrow e) h k = omega arith
+      not_such Bad h k = omega arith
+      not_such End h k = omega arith
 
 -- it found this one
 module _ (text : List ℕ) (at : ℕ) (t : ToldToken) (told : Told text at t) where

@@ -89,15 +89,15 @@ loop-i-preserved c =
       omega arith,
       omega arith,
       ap length w.list-is ∙ w.write_record.auto.list ∙ l.invariant.2,
-      rw (w.5, w.6)
-          (one_written _ _ _ _ nodes _ _ l.next l.i l.list l.invariant.3 l.invariant.0 c.loop-i-test.true c.requires.3 told c.requires.5 _ w.2.ensures),
+      rw (w.list-is, w.next-is)
+          (one_written _ _ _ _ nodes _ _ l.next l.i l.list l.invariant.3 l.invariant.0 c.loop-i-test.true c.requires.3 told c.requires.5 _ w.write_record.ensures),
     ))
     (λ w.
-    let told = sym c.is_defined.ensures ∙ w.0.left in (
+    let told = sym c.is_defined.ensures ∙ w.if-is_defined.false in (
       omega arith,
       omega arith,
-      ap length w.1 ∙ l.invariant.2,
-      rw (w.1, w.2) (passed_over _ _ _ _ nodes _ _ l.next l.i l.list l.invariant.3 l.invariant.0 c.loop-i-test.true c.requires.3 told),
+      ap length w.list-is ∙ l.invariant.2,
+      rw (w.list-is, w.next-is) (passed_over _ _ _ _ nodes _ _ l.next l.i l.list l.invariant.3 l.invariant.0 c.loop-i-test.true c.requires.3 told),
     ))
     c.if-is_defined.branch-raw
 

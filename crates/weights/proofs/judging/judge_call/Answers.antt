@@ -1,7 +1,5 @@
 -- `weights::judging::judge_call` meets its contract.
 use mathlib.Core.Path.{sym, ◌∙◌}
-use borrow.Author.Rules.{rules}
-use borrow.Author.Tests.{not-true, not-false}
 use Rattle.weights.specs.Working.{SideSummed}
 use Rattle.weights.proofs.Working.{as_call}
 use Rattle.weights.proofs.Verdicts.{pair_left_over, pair_right_over, by_rising, by_staying, by_falling}

@@ -1,7 +1,6 @@
 -- `weights::judging::judge_rule` meets its contract.
 use mathlib.Core.Path.{sym, ◌∙◌}
 use mathlib.Core.Bool.{true, false}
-use borrow.Author.Rules.{rules}
 use Rattle.polynomials.specs.Polynomials.{at_least}
 use Rattle.weights.specs.Working.{verdict}
 use Rattle.weights.proofs.Working.{as_rule}

@@ -1,6 +1,5 @@
 -- `weights::judging::marked_side` meets its contract.
 use native.Mathlib.Omega.{arith}
-use borrow.Author.Rules.{rules}
 use Rattle.weights.specs.Working.{SideSummed}
 use Rattle.weights.proofs.Arguments.{node_within, root_symbol}
 use Rattle.weights.proofs.Walking.{code_small, applied_low, marked_row_is}

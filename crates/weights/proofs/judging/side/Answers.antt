@@ -4,7 +4,6 @@ use mathlib.Core.Bool.{false≢true}
 use Prim.Native.Nat.{ℕ, suc, ◌-◌}
 use native.Mathlib.Omega.{arith}
 use lib.ListN.{get_or, set, length-set}
-use borrow.Author.Rules.{rules}
 use Rattle.weights.proofs.Arguments.{node_within, root_variable, root_symbol}
 use Rattle.weights.proofs.Walking.{code_small, plain_row}
 use Rattle.weights.proofs.Verdicts.{application_summed, variable_summed, no_sums}

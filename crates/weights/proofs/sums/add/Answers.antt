@@ -1,7 +1,6 @@
 -- `weights::sums::add` meets its contract.
 use mathlib.Core.Path.{sym, ◌∙◌}
 use native.Mathlib.Omega.{arith}
-use borrow.Author.Rules.{rules}
 use Rattle.weights.proofs.Adding.{limit_room, one_fits, one_over, one_within}
 use Rattle.weights.proofs.sums.add.Goals as goal
 

@@ -1,11 +1,8 @@
 -- `weights::sums::all_at_least` meets its contract. The loop's invariant: each number from v on is at least the other's exactly if
 -- each of all is.
-use mathlib.Core.Path.{◌≡◌, refl, sym, ◌∙◌}
-use Prim.Native.Nat.{◌-◌, ◌≤◌}
+use mathlib.Core.Path.{refl, sym, ◌∙◌}
 use native.Mathlib.Omega.{arith}
-use lib.ListN.{length, drop}
 use borrow.Author.Rules.{rules}
-use Rattle.polynomials.specs.Polynomials.{each_at_least}
 use Rattle.weights.proofs.Least.{less, passed, none_left}
 use Rattle.weights.proofs.sums.all_at_least.Goals as goal
 

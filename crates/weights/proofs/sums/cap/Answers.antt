@@ -1,6 +1,5 @@
 -- `weights::sums::cap` meets its contract.
 use mathlib.Core.Path.{sym, ◌∙◌}
-use borrow.Author.Rules.{rules}
 use Rattle.polynomials.specs.Limit.{limit}
 use Rattle.weights.proofs.Adding.{cap_over, cap_not}
 use Rattle.weights.proofs.sums.cap.Goals as goal

@@ -1,5 +1,4 @@
 -- `weights::table::put` meets its contract.
-use borrow.Author.Rules.{rules}
 use Rattle.weights.proofs.table.put.Goals as goal
 
 pub returns : goal.returns

@@ -1,5 +1,4 @@
 -- `weights::table::put_marked` meets its contract.
-use borrow.Author.Rules.{rules}
 use Rattle.weights.proofs.table.put_marked.Goals as goal
 
 pub returns : goal.returns

@@ -1,0 +1,63 @@
+-- `text_names::read_variables` meets its contract. The loop's invariant: the names before place i are read, and the table holds them.
+use mathlib.Core.Path.{◌≡◌, refl, ◌∙◌}
+use Prim.Native.Nat.{◌-◌}
+use native.Mathlib.Omega.{arith}
+use lib.ListN.{length}
+use Rattle.text_tokens.specs.Told.{Named, Told}
+use Rattle.text_names.proofs.Listing.{after_end, after_other, ReadBefore, read_none, read_more, read_closed, read_refused}
+use Rattle.text_names.proofs.read_variables.Goals as goal
+
+pub loop-i-init : goal.loop-i-init
+loop-i-init c = (refl, read_none _ _ _ c.requires)
+
+pub next_token-requires : goal.next_token-requires
+next_token-requires c = record { within = c.loop-i.invariant.1.within; text_short = c.requires.text_short }
+
+pub keep-requires : goal.keep-requires
+unfolding Told
+keep-requires c =
+    let named : let l = c.loop-i in
+    Named c.args.text.now l.i c.in-Name.s c.in-Name.e = rw c.in-Name.is at c.next_token.ensures in
+    let l = c.loop-i in
+    let q = c.requires in
+    let m = named in
+    record {
+      text_short = q.text_short;
+      within = omega (arith, m.some, m.moves.within);
+      from = m.from;
+      later = omega (arith, q.later, l.invariant.1.past);
+      names = l.invariant.1.names;
+      list = _;
+      holds = l.invariant.1.holds;
+    }
+
+pub loop-i-smaller : goal.loop-i-smaller
+unfolding Told
+loop-i-smaller c =
+    let named : let l = c.loop-i in
+    Named c.args.text.now l.i c.in-Name.s c.in-Name.e = rw c.in-Name.is at c.next_token.ensures in
+    let m = named.moves in omega (arith, m.forth, m.within)
+
+pub loop-i-preserved : goal.loop-i-preserved
+unfolding Told
+loop-i-preserved c =
+    let named : let l = c.loop-i in
+    Named c.args.text.now l.i c.in-Name.s c.in-Name.e = rw c.in-Name.is at c.next_token.ensures in
+    let l = c.loop-i in
+    (c.keep.auto.table ∙ l.invariant.0, read_more _ _ l.table l.i l.invariant.1 _ _ named _ c.keep.ensures)
+
+pub returns-in-Close : goal.returns-in-Close
+unfolding Told
+returns-in-Close c =
+    let l = c.loop-i in
+    read_closed c.args.text.now _ _ l.i l.invariant.1 c.requires.text_short _ (rw c.in-Close.is at c.next_token.ensures)
+
+pub returns-in_default : goal.returns-in_default
+returns-in_default c =
+    let l = c.loop-i in
+    read_refused _ _ _ l.i l.invariant.1 (after_other _ l.i _ c.next_token.ensures c.in_default.not-Name c.in_default.not-Close)
+
+pub returns : goal.returns
+returns c =
+    let l = c.loop-i in
+    read_refused _ _ _ l.i l.invariant.1 (after_end _ l.i c.loop-i-test.false l.invariant.1.within)

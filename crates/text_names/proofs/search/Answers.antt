@@ -1,0 +1,99 @@
+-- `text_names::search` meets its contract. The loop's invariant: the names kept before lo are less, and none from hi on is.
+use mathlib.Core.Path.{sym, ◌∙◌}
+use Prim.Native.Nat.{ℕ, ◌+◌, ◌-◌, ◌/◌, ◌≤◌, ◌<◌}
+use native.Mathlib.Omega.{arith}
+use lib.ListN.{get_or}
+use Rattle.text_tokens.specs.Told.{name_at}
+use Rattle.text_names.specs.Table.{most_kept, first_kept, count, kept}
+use Rattle.text_names.proofs.Table.{LessBelow, NotFrom, less_up_to, not_from}
+use Rattle.text_names.proofs.search.Goals as goal
+
+pub bounds-table-1 : goal.bounds-table-1
+bounds-table-1 c = omega (arith, c.requires.rising.long)
+
+pub overflow_cast-hi : goal.overflow_cast-hi
+overflow_cast-hi c = omega (arith, c.requires.rising.few)
+
+pub loop-lo-init : goal.loop-lo-init
+loop-lo-init c = (omega arith, omega arith, λ i h. absurd (omega arith), λ i past h. absurd (omega arith))
+
+pub overflow_add-m : goal.overflow_add-m
+overflow_add-m c =
+    let few : c.loop-lo.hi ≤ most_kept = omega (arith, c.loop-lo.invariant.1, c.requires.rising.few) in
+    omega (arith, few, c.loop-lo-test.true)
+
+pub overflow_add-m-in-loop-lo : goal.overflow_add-m-in-loop-lo
+overflow_add-m-in-loop-lo c =
+    let few : c.loop-lo.hi ≤ most_kept = omega (arith, c.loop-lo.invariant.1, c.requires.rising.few) in
+    omega (arith, few, c.loop-lo-test.true)
+
+pub offset_bounds-table-m : goal.offset_bounds-table-m
+offset_bounds-table-m c =
+    let few : c.loop-lo.hi ≤ most_kept = omega (arith, c.loop-lo.invariant.1, c.requires.rising.few) in
+    omega (arith, few, c.loop-lo-test.true)
+
+pub bounds-table-m : goal.bounds-table-m
+bounds-table-m c =
+    let few : c.loop-lo.hi ≤ most_kept = omega (arith, c.loop-lo.invariant.1, c.requires.rising.few) in
+    let middle : ℕ = (c.loop-lo.lo + c.loop-lo.hi) / 2 in
+    let within : middle < count c.args.table.now = omega (arith, c.loop-lo-test.true, c.loop-lo.invariant.1) in
+    omega (arith, within, few, c.requires.rising.few, c.requires.rising.long)
+
+pub overflow_cast-table : goal.overflow_cast-table
+overflow_cast-table c =
+    let middle : ℕ = (c.loop-lo.lo + c.loop-lo.hi) / 2 in
+    let small : get_or c.args.table.now (first_kept + middle) 0 < 65536 = omega (arith, c.shared_slice_known-in-loop-lo-1.given (first_kept + middle)) in
+    omega (arith, small)
+
+pub less_name-requires : goal.less_name-requires
+less_name-requires c =
+    let middle : ℕ = (c.loop-lo.lo + c.loop-lo.hi) / 2 in
+    let small : get_or c.args.table.now (first_kept + middle) 0 < 65536 = omega (arith, c.shared_slice_known-in-loop-lo-1.given (first_kept + middle)) in
+    let q = c.requires in
+    record { text_short = q.text_short; left_small = omega (arith, small); right_small = omega (arith, q.within, q.text_short) }
+
+pub overflow_add-lo : goal.overflow_add-lo
+overflow_add-lo c =
+    let few : c.loop-lo.hi ≤ most_kept = omega (arith, c.loop-lo.invariant.1, c.requires.rising.few) in
+    omega (arith, few)
+
+pub loop-lo-smaller-then-less_name : goal.loop-lo-smaller-then-less_name
+loop-lo-smaller-then-less_name c = omega (arith, c.loop-lo-test.true)
+
+pub loop-lo-preserved-then-less_name : goal.loop-lo-preserved-then-less_name
+unfolding kept
+loop-lo-preserved-then-less_name c =
+    let middle : ℕ = (c.loop-lo.lo + c.loop-lo.hi) / 2 in
+    let within : middle < count c.args.table.now = omega (arith, c.loop-lo-test.true, c.loop-lo.invariant.1) in
+    let l = c.loop-lo in
+    let q = c.requires in (
+      omega (arith, c.loop-lo-test.true),
+      l.invariant.1,
+      less_up_to _ _ _ q.rising middle within _ (omega arith) (sym c.less_name.ensures ∙ c.if-less_name.true),
+      l.invariant.3,
+    )
+
+pub loop-lo-smaller : goal.loop-lo-smaller
+loop-lo-smaller c = omega (arith, c.loop-lo-test.true)
+
+pub loop-lo-preserved : goal.loop-lo-preserved
+unfolding kept
+loop-lo-preserved c =
+    let middle : ℕ = (c.loop-lo.lo + c.loop-lo.hi) / 2 in
+    let within : middle < count c.args.table.now = omega (arith, c.loop-lo-test.true, c.loop-lo.invariant.1) in
+    let l = c.loop-lo in
+    let q = c.requires in (
+      omega (arith, c.loop-lo-test.true),
+      omega (arith, within),
+      l.invariant.2,
+      not_from _ _ _ q.rising middle within (sym c.less_name.ensures ∙ c.if-less_name.false),
+    )
+
+pub returns : goal.returns
+returns c =
+    let l = c.loop-lo in
+    record {
+      within = omega (arith, l.invariant.0, l.invariant.1);
+      below = l.invariant.2;
+      above = λ i past h. l.invariant.3 i (omega (arith, c.loop-lo-test.false)) h;
+    }
