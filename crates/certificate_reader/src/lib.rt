@@ -14,7 +14,7 @@ use records::{Answer, Refusal, Wanted};
 // What has been read: the last record's row of the table and the components begun. Of the last component: the pairs still
 // due, whether it has a weighting, the weightings still to begin and those begun (the next L's number), the key of its last P
 // record and those of its last weighting's last W and M records (0 for none).
-#[derive(Drop)]
+#[derive(Clone, Copy)]
 pub struct State {
     pub last: usize,
     pub number: usize,
@@ -28,7 +28,7 @@ pub struct State {
 }
 
 // The next state, or a refusal.
-#[derive(Drop)]
+#[derive(Clone, Copy)]
 pub enum Stepped {
     On(State),
     Refused(Refusal),

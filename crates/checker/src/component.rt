@@ -11,7 +11,7 @@ use weights::table::CELLS;
 
 // Which weighting of a component is judged: its number, whether it is the last, and the number of the component's first pair among
 // all that the certificate names.
-#[derive(Drop)]
+#[derive(Clone, Copy)]
 pub struct Turn {
     pub number: u8,
     pub last: bool,
@@ -20,7 +20,7 @@ pub struct Turn {
 
 // What a component came to: the record after it or a refusal, and, where it passed, where the W records begin whose weights the table
 // then holds, or 0 for none.
-#[derive(Drop)]
+#[derive(Clone, Copy)]
 pub struct Found {
     pub answer: Answer,
     pub weights: usize,

@@ -12,7 +12,7 @@ use terms::{MOST_SYMBOLS, NODES_ROOM};
 
 // What a certificate comes to, and the entries of its pairs. Where it is accepted, each tells the weighting under which its pair left,
 // or 0 where the component has none.
-#[derive(Drop)]
+#[derive(Clone, Copy)]
 pub struct Judged {
     pub store: Store,
     pub answer: Answer,

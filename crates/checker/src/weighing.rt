@@ -138,7 +138,7 @@ pub fn judge_rules(
 
 // What the pairs present come to under a weighting: whether one is over the limit and, where none is, whether one rises, one stays,
 // one falls.
-#[derive(Drop)]
+#[derive(Clone, Copy)]
 pub struct Tally {
     pub over: bool,
     pub rises: bool,

@@ -17,7 +17,7 @@ pub struct Entry {
 }
 
 // The entries of the pairs that a certificate names, in its order, and how many there are. The count last, for a quick copy: DECISIONS 35.
-#[derive(Drop)]
+#[derive(Clone, Copy)]
 pub struct Store {
     pub entries: [Entry; MOST_PAIRS],
     pub count: usize,

@@ -20,14 +20,14 @@ pub const MOST_NODES: usize = 32;
 pub const STARTS_ROOM: usize = 2 * MOST_RULES + 1;
 
 // How many symbols and rules a pack has.
-#[derive(Drop)]
+#[derive(Clone, Copy)]
 pub struct Counts {
     pub symbols: usize,
     pub rules: usize,
 }
 
 // A pack's counts, or its refusal.
-#[derive(Drop)]
+#[derive(Clone, Copy)]
 pub enum PackRead {
     Read(Counts),
     Refused(Refusal),

@@ -11,7 +11,7 @@ use terms::{FIRST_VARIABLE, MOST_SYMBOLS, MOST_VARIABLES};
 const PAST_VARIABLES: usize = MOST_SYMBOLS + MOST_VARIABLES;
 
 // What a right side is: exactly one term or not, and each variable in it seen on the left or not.
-#[derive(Drop)]
+#[derive(Clone, Copy)]
 pub struct RightSide {
     pub one: bool,
     pub closed: bool,

@@ -104,7 +104,7 @@ fn fits(
 }
 
 // Two places among the nodes: one in the first list of a walk, and one in the other.
-#[derive(Drop)]
+#[derive(Clone, Copy)]
 struct Places {
     first: usize,
     other: usize,

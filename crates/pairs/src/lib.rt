@@ -2,7 +2,7 @@
 // The arc question's answer.
 use records::Refusal;
 
-#[derive(Drop)]
+#[derive(Clone, Copy)]
 pub enum ArcAnswer {
     Yes,
     No,

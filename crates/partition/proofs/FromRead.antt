@@ -23,6 +23,7 @@ use Rattle.partition.specs.Working.{AllPairs, AllSmall}
 
 each_member : {A : Type 0} {P : A → Type 0} {x : A} {xs : List A} → Each P xs → Memᴰ x xs → P x
 each_member {P = P} (each_cons y ys h hs) (Memᴰ.head e) = subst P (sym e) h
+each_member each_nil i = elim i [ ]
 each_member (each_cons y ys h hs) (Memᴰ.tail m) = each_member hs m
 
 pub pair_small : (p : System) → GoodPack p → (q : Pair) → is_pair p q ≡ true → (q.at_rule < 64) × (q.place < 32)

@@ -29,7 +29,7 @@ const BYTE_4: u64 = 0x100000000;
 const BYTE_6: u64 = 0x1000000000000;
 
 // A record as its fields. Byte 0 is the kind, byte 1 is `one`, and a, b and c are two bytes each, low byte first.
-#[derive(Drop)]
+#[derive(Clone, Copy)]
 pub struct Record {
     pub kind: u8,
     pub one: u8,
@@ -39,7 +39,7 @@ pub struct Record {
 }
 
 // Document 01's refusals 1 to 14 in its order, and document 02's, 15 to 24.
-#[derive(Drop)]
+#[derive(Clone, Copy)]
 pub enum Refusal {
     CutFile,
     StrayRecord,
@@ -68,14 +68,14 @@ pub enum Refusal {
 }
 
 // A number to go on with, or a refusal.
-#[derive(Drop)]
+#[derive(Clone, Copy)]
 pub enum Answer {
     Passed(usize),
     Refused(Refusal),
 }
 
 // What stands at a place: a record of a kind that may stand there, or another.
-#[derive(Drop)]
+#[derive(Clone, Copy)]
 pub enum Wanted {
     Found(Record),
     Stray,

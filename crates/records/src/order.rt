@@ -86,7 +86,7 @@ const AFTER_M: u32 = M + L + C + END_OF_CERTIFICATE;
 const AFTER_L: u32 = AFTER_W;
 
 // A row: the bits while the count lasts, after it, and after it in a component with a weighting.
-#[derive(Drop)]
+#[derive(Clone, Copy)]
 struct Row {
     lasts: u32,
     done: u32,

@@ -13,7 +13,7 @@ use records::Answer;
 
 // A refusal's number and 0, or 0 and a value.
 #[repr(C)]
-#[derive(Drop)]
+#[derive(Clone, Copy)]
 pub struct Reply {
     pub number: u32,
     pub value: u32,

@@ -18,7 +18,7 @@ use records::{Answer, MOST_CERTIFICATE_BYTES, Refusal};
 use terms::{MOST_SYMBOLS, NODES_ROOM};
 
 // What the check answers.
-#[derive(Drop)]
+#[derive(Clone, Copy)]
 pub enum Checked {
     Accepted,
     Refused(Refusal),

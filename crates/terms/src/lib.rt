@@ -16,10 +16,10 @@ pub const NODES_ROOM: usize = 4096;
 pub const FIRST_VARIABLE: u8 = MOST_SYMBOLS as u8;
 
 // A plain symbol, and the tuple symbol (document 01: marked symbol) of a defined one: never taken for each other.
-#[derive(Drop)]
+#[derive(Clone, Copy)]
 pub struct Symbol(pub u16);
 
-#[derive(Drop)]
+#[derive(Clone, Copy)]
 pub struct Marked(pub u16);
 
 // How many arguments a node has.

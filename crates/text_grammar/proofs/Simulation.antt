@@ -96,7 +96,7 @@ module _ (text : List ℕ) (at : ℕ) (vs : List Name) where
       → last_read t x ≡ none → Refuses
   refuses i t us is x f a b = sym (f ∙ rw is (read_not vs t x us a b))
 
--- THE LAWS
+-- THE LAWS: in each the last three cases are readings for which no numbers stand
 module _ {text : List ℕ} {at : ℕ} {vs : List Name} {mode depth : ℕ} {right : Bool} {last i : ℕ} (f : Follows text at vs mode depth right last i) where
   abbrev Case : (claim : Type 0) → Type 0
   Case claim =
@@ -127,6 +127,9 @@ module _ {text : List ℕ} {at : ℕ} {vs : List Name} {mode depth : ℕ} {right
         go opened (o ∷ os) l rs (at_opened a b c) q =
             goes_on text at vs _ m _ q (standing (complete (bare (name_at text s))) (o ∷ os) l rs) refl refl _ _ _ _ (at_term (omega arith) (refl, refl) b c)
         go (complete p) os l rs (at_term a d b c) q = absurd (omega arith)
+        go between [] (some u) rs y q = elim y [ ]
+        go between (o ∷ os) l rs y q = elim y [ ]
+        go opened [] l rs y q = elim y [ ]
 
     -- the next rule begins
     pub name_next : 2 ≤ mode → depth ≡ 0 → right ≡ true → Follows text at vs 2 depth false s e
@@ -143,6 +146,9 @@ module _ {text : List ℕ} {at : ℕ} {vs : List Name} {mode depth : ℕ} {right
             goes_on text at vs _ m _ q (standing (complete (bare (name_at text s))) [] none (rs ++ (record { left = u; right = p } ∷ []))) refl refl _ _ _ _
             (at_term (omega arith) (refl, refl) b refl)
         go (complete p) (o ∷ os) l rs (at_term a d b c) q = absurd (omega arith)
+        go between [] (some u) rs y q = elim y [ ]
+        go between (o ∷ os) l rs y q = elim y [ ]
+        go opened [] l rs y q = elim y [ ]
 
     pub name_inside : 2 ≤ mode → 0 < depth → Refuses text at vs
     unfolding token_read last_read name_read
@@ -154,6 +160,9 @@ module _ {text : List ℕ} {at : ℕ} {vs : List Name} {mode depth : ℕ} {right
         go opened (o ∷ os) l rs (at_opened a b c) q = absurd (omega arith)
         go (complete p) [] l rs (at_term a d b c) q = absurd (omega arith)
         go (complete p) (o ∷ os) l rs (at_term a d b c) q = refuses text at vs i _ _ m.is _ q refl refl
+        go between [] (some u) rs y q = elim y [ ]
+        go between (o ∷ os) l rs y q = elim y [ ]
+        go opened [] l rs y q = elim y [ ]
 
     pub name_left : 2 ≤ mode → right ≡ false → Refuses text at vs
     unfolding token_read last_read name_read is_some
@@ -166,6 +175,9 @@ module _ {text : List ℕ} {at : ℕ} {vs : List Name} {mode depth : ℕ} {right
         go (complete p) [] none rs (at_term a d b c) q = refuses text at vs i _ _ m.is _ q refl refl
         go (complete p) [] (some u) rs (at_term a d b c) q = absurd (false≢true (sym r ∙ c))
         go (complete p) (o ∷ os) l rs (at_term a d b c) q = refuses text at vs i _ _ m.is _ q refl refl
+        go between [] (some u) rs y q = elim y [ ]
+        go between (o ∷ os) l rs y q = elim y [ ]
+        go opened [] l rs y q = elim y [ ]
 
   -- A LIST BEGINS
   module _ {e : ℕ} (m : Moves text i opens e) where
@@ -179,6 +191,9 @@ module _ {text : List ℕ} {at : ℕ} {vs : List Name} {mode depth : ℕ} {right
         go opened (o ∷ os) l rs (at_opened a b c) q = refuses text at vs i _ _ m.is _ q refl refl
         go (complete (bare n)) os l rs (at_term a d b c) q = absurd (h d.0)
         go (complete (applied n ps)) os l rs (at_term a d b c) q = refuses text at vs i _ _ m.is _ q refl refl
+        go between [] (some u) rs y q = elim y [ ]
+        go between (o ∷ os) l rs y q = elim y [ ]
+        go opened [] l rs y q = elim y [ ]
 
     -- a variable has no list
     pub open_variable : mode ≡ 2 → among (name_at text last) vs ≡ true → Refuses text at vs
@@ -191,6 +206,9 @@ module _ {text : List ℕ} {at : ℕ} {vs : List Name} {mode depth : ℕ} {right
         go opened (o ∷ os) l rs (at_opened a b c) q = absurd (omega arith)
         go (complete (bare n)) os l rs (at_term a d b c) q = refuses text at vs i _ _ m.is _ q (rw (d.1, v)) refl
         go (complete (applied n ps)) os l rs (at_term a d b c) q = absurd (omega arith)
+        go between [] (some u) rs y q = elim y [ ]
+        go between (o ∷ os) l rs y q = elim y [ ]
+        go opened [] l rs y q = elim y [ ]
 
     pub open_list : mode ≡ 2 → among (name_at text last) vs ≡ false → Follows text at vs 1 (depth + 1) right last e
     unfolding token_read last_read list_opened LastTerm
@@ -203,6 +221,9 @@ module _ {text : List ℕ} {at : ℕ} {vs : List Name} {mode depth : ℕ} {right
         go (complete (bare n)) os l rs (at_term a d b c) q =
             goes_on text at vs _ m _ q (standing opened (record { name = n; arguments = nil } ∷ os) l rs) (rw (d.1, v)) refl _ _ _ _ (at_opened refl (omega arith) c)
         go (complete (applied n ps)) os l rs (at_term a d b c) q = absurd (omega arith)
+        go between [] (some u) rs y q = elim y [ ]
+        go between (o ∷ os) l rs y q = elim y [ ]
+        go opened [] l rs y q = elim y [ ]
 
   -- A LIST ENDS, or the rules do
   module _ {e : ℕ} (m : Moves text i closes e) where
@@ -216,6 +237,9 @@ module _ {text : List ℕ} {at : ℕ} {vs : List Name} {mode depth : ℕ} {right
         go wanted (o ∷ os) l rs (at_wanted a b c) q = refuses text at vs i _ _ m.is _ q refl refl
         go opened (o ∷ os) l rs (at_opened a b c) q = absurd (omega arith)
         go (complete p) os l rs (at_term a d b c) q = absurd (omega arith)
+        go between [] (some u) rs y q = elim y [ ]
+        go between (o ∷ os) l rs y q = elim y [ ]
+        go opened [] l rs y q = elim y [ ]
 
     module _ (h : mode ≡ 0 → ⊥) where
       pub close_last : depth ≡ 0 → right ≡ true → (r : Bool) → r ≡ no_tokens (tokens_at text e) → r ≡ is_some (rules_from vs at_start (tokens_at text at))
@@ -229,6 +253,9 @@ module _ {text : List ℕ} {at : ℕ} {vs : List Name} {mode depth : ℕ} {right
           go (complete p) [] none rs (at_term a d b c) q = absurd (false≢true (sym c ∙ z))
           go (complete p) [] (some u) rs (at_term a d b c) q = q ∙ rw m.is (closed vs p u rs (tokens_at text e))
           go (complete p) (o ∷ os) l rs (at_term a d b c) q = absurd (omega arith)
+          go between [] (some u) rs y q = elim y [ ]
+          go between (o ∷ os) l rs y q = elim y [ ]
+          go opened [] l rs y q = elim y [ ]
 
       -- the rule has no right side yet
       pub close_left : depth ≡ 0 → right ≡ false → Refuses text at vs
@@ -242,6 +269,9 @@ module _ {text : List ℕ} {at : ℕ} {vs : List Name} {mode depth : ℕ} {right
           go (complete p) [] none rs (at_term a d b c) q = refuses text at vs i _ _ m.is _ q refl refl
           go (complete p) [] (some u) rs (at_term a d b c) q = absurd (false≢true (sym z ∙ c))
           go (complete p) (o ∷ os) l rs (at_term a d b c) q = absurd (omega arith)
+          go between [] (some u) rs y q = elim y [ ]
+          go between (o ∷ os) l rs y q = elim y [ ]
+          go opened [] l rs y q = elim y [ ]
 
       pub close_list : (depth ≡ 0 → ⊥) → Follows text at vs 3 (depth - 1) right last e
       unfolding token_read last_read list_closed rules_whole LastTerm
@@ -256,6 +286,9 @@ module _ {text : List ℕ} {at : ℕ} {vs : List Name} {mode depth : ℕ} {right
           go (complete p) (o ∷ os) l rs (at_term a d b c) q =
               goes_on text at vs _ m _ q (standing (complete (applied o.name (with_last o.arguments p))) os l rs) refl refl _ _ _ _
               (at_term (omega arith) refl (omega arith) c)
+          go between [] (some u) rs y q = elim y [ ]
+          go between (o ∷ os) l rs y q = elim y [ ]
+          go opened [] l rs y q = elim y [ ]
 
   -- THE NEXT ARGUMENT
   module _ {e : ℕ} (m : Moves text i comma e) where
@@ -268,6 +301,9 @@ module _ {text : List ℕ} {at : ℕ} {vs : List Name} {mode depth : ℕ} {right
         go wanted os l rs (at_wanted a b c) q = refuses text at vs i _ _ m.is _ q refl refl
         go opened (o ∷ os) l rs (at_opened a b c) q = refuses text at vs i _ _ m.is _ q refl refl
         go (complete p) os l rs (at_term a d b c) q = absurd (omega arith)
+        go between [] (some u) rs y q = elim y [ ]
+        go between (o ∷ os) l rs y q = elim y [ ]
+        go opened [] l rs y q = elim y [ ]
 
     pub comma_outside : 2 ≤ mode → depth ≡ 0 → Refuses text at vs
     unfolding token_read last_read comma_read
@@ -279,6 +315,9 @@ module _ {text : List ℕ} {at : ℕ} {vs : List Name} {mode depth : ℕ} {right
         go opened (o ∷ os) l rs (at_opened a b c) q = absurd (omega arith)
         go (complete p) [] l rs (at_term a d b c) q = refuses text at vs i _ _ m.is _ q refl refl
         go (complete p) (o ∷ os) l rs (at_term a d b c) q = absurd (omega arith)
+        go between [] (some u) rs y q = elim y [ ]
+        go between (o ∷ os) l rs y q = elim y [ ]
+        go opened [] l rs y q = elim y [ ]
 
     pub comma_next : 2 ≤ mode → (depth ≡ 0 → ⊥) → Follows text at vs 0 depth right last e
     unfolding token_read last_read comma_read
@@ -292,6 +331,9 @@ module _ {text : List ℕ} {at : ℕ} {vs : List Name} {mode depth : ℕ} {right
         go (complete p) (o ∷ os) l rs (at_term a d b c) q =
             goes_on text at vs _ m _ q (standing wanted (record { name = o.name; arguments = with_last o.arguments p } ∷ os) l rs) refl refl _ _ _ _
             (at_wanted refl b c)
+        go between [] (some u) rs y q = elim y [ ]
+        go between (o ∷ os) l rs y q = elim y [ ]
+        go opened [] l rs y q = elim y [ ]
 
   -- THE RIGHT SIDE
   module _ {e : ℕ} (m : Moves text i arrow e) where
@@ -304,6 +346,9 @@ module _ {text : List ℕ} {at : ℕ} {vs : List Name} {mode depth : ℕ} {right
         go wanted os l rs (at_wanted a b c) q = refuses text at vs i _ _ m.is _ q refl refl
         go opened (o ∷ os) l rs (at_opened a b c) q = refuses text at vs i _ _ m.is _ q refl refl
         go (complete p) os l rs (at_term a d b c) q = absurd (omega arith)
+        go between [] (some u) rs y q = elim y [ ]
+        go between (o ∷ os) l rs y q = elim y [ ]
+        go opened [] l rs y q = elim y [ ]
 
     module _ (h : 2 ≤ mode) where
       pub arrow_inside : 0 < depth → Refuses text at vs
@@ -316,6 +361,9 @@ module _ {text : List ℕ} {at : ℕ} {vs : List Name} {mode depth : ℕ} {right
           go opened (o ∷ os) l rs (at_opened a b c) q = absurd (omega arith)
           go (complete p) [] l rs (at_term a d b c) q = absurd (omega arith)
           go (complete p) (o ∷ os) l rs (at_term a d b c) q = refuses text at vs i _ _ m.is _ q refl refl
+          go between [] (some u) rs y q = elim y [ ]
+          go between (o ∷ os) l rs y q = elim y [ ]
+          go opened [] l rs y q = elim y [ ]
 
       pub arrow_twice : right ≡ true → Refuses text at vs
       unfolding token_read last_read arrow_read is_some
@@ -328,6 +376,9 @@ module _ {text : List ℕ} {at : ℕ} {vs : List Name} {mode depth : ℕ} {right
           go (complete p) [] none rs (at_term a d b c) q = absurd (false≢true (sym c ∙ z))
           go (complete p) [] (some u) rs (at_term a d b c) q = refuses text at vs i _ _ m.is _ q refl refl
           go (complete p) (o ∷ os) l rs (at_term a d b c) q = refuses text at vs i _ _ m.is _ q refl refl
+          go between [] (some u) rs y q = elim y [ ]
+          go between (o ∷ os) l rs y q = elim y [ ]
+          go opened [] l rs y q = elim y [ ]
 
       pub arrow_next : depth ≡ 0 → right ≡ false → Follows text at vs 0 depth true last e
       unfolding token_read last_read arrow_read is_some
@@ -340,6 +391,9 @@ module _ {text : List ℕ} {at : ℕ} {vs : List Name} {mode depth : ℕ} {right
           go (complete p) [] none rs (at_term a d b c) q = goes_on text at vs _ m _ q (standing wanted [] (some p) rs) refl refl _ _ _ _ (at_wanted refl b refl)
           go (complete p) [] (some u) rs (at_term a d b c) q = absurd (false≢true (sym z ∙ c))
           go (complete p) (o ∷ os) l rs (at_term a d b c) q = absurd (omega arith)
+          go between [] (some u) rs y q = elim y [ ]
+          go between (o ∷ os) l rs y q = elim y [ ]
+          go opened [] l rs y q = elim y [ ]
 
 -- what the loop keeps after a token
 module _ {text : List ℕ} {at : ℕ} {table : List ℕ} {mode depth : ℕ} {right : Bool} {last i : ℕ} (k : Kept text at table mode depth right last i) where

@@ -19,7 +19,7 @@ const PLACES: usize = 65536;
 const MOST_ARITY: usize = 8;
 
 // How many symbols, variables of the rule and nodes there are so far.
-#[derive(Drop)]
+#[derive(Clone, Copy)]
 pub struct Seen {
     pub symbols: usize,
     pub variables: usize,
@@ -27,7 +27,7 @@ pub struct Seen {
 }
 
 // The counts afterwards, or that one is over its limit, or a symbol has two arities.
-#[derive(Drop)]
+#[derive(Clone, Copy)]
 pub enum Numbered {
     Read(Seen),
     Over,

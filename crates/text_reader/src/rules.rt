@@ -18,14 +18,14 @@ use text_sides::{SideRead, USES_ROOM};
 use text_tokens::Token;
 
 // The place after a side and the counts there, or that one is over its limit.
-#[derive(Drop)]
+#[derive(Clone, Copy)]
 enum SideKept {
     Read(usize, Seen),
     Over,
 }
 
 // The place after a rule, the nodes up to its right side, and the counts there.
-#[derive(Drop)]
+#[derive(Clone, Copy)]
 enum RuleKept {
     Read(usize, usize, Seen),
     Over,

@@ -15,14 +15,14 @@ use text_tokens::Token;
 pub const USES_ROOM: usize = 2 * MOST_NODES;
 
 // The place after a term, and how many names there are; or that there is one too many.
-#[derive(Drop)]
+#[derive(Clone, Copy)]
 pub enum SideRead {
     Read(usize, usize),
     Over,
 }
 
 // The place after an argument list, how many names there are, and how many arguments it has.
-#[derive(Drop)]
+#[derive(Clone, Copy)]
 pub enum ListRead {
     Read(usize, usize, usize),
     Over,

@@ -9,7 +9,7 @@ ghost use Rattle.text_tokens.specs.Told.{name_at, character, Told, PlaceIn, Skip
 const MOST_CHARACTERS: usize = 24;
 
 // The next token, and where it ends; a name's start before that.
-#[derive(Drop)]
+#[derive(Clone, Copy)]
 pub enum Token {
     Name(usize, usize),
     Open(usize),

@@ -18,7 +18,7 @@ use table::CELLS;
 use terms::{MOST_SYMBOLS, NODES_ROOM, Symbol};
 
 // What rules are found to be: over the limit, a left side not at least its right, or each at least its right.
-#[derive(Drop)]
+#[derive(Clone, Copy)]
 pub enum Verdict {
     Over,
     Fails,
@@ -26,7 +26,7 @@ pub enum Verdict {
 }
 
 // What a pair is found to be: over the limit, or its left side not at least its right, at least but not greater, or greater.
-#[derive(Drop)]
+#[derive(Clone, Copy)]
 pub enum PairVerdict {
     Over,
     Rises,

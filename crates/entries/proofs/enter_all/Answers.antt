@@ -30,8 +30,7 @@ loop-i-preserved c =
     let more : t.i < length bs / 8 = c.loop-i-test.true in
     let is_w = c.word_at-word.ensures in
     let is_m = c.numbered-number.ensures in
-    let is_c = c.counted-count.ensures in
-    (
+    let is_c = c.counted-count.ensures in (
       omega arith,
       next_few bs t more _ is_m,
       next_fewer bs t more is_w is_m c.place_of-at.ensures c.entry_of-entry.ensures c.enter.ensures is_c,

@@ -1,14 +1,12 @@
--- `text_grammar::rules_stand` meets its contract. The loop's invariant: its numbers stand for a reading of the tokens so far.
-use mathlib.Core.Path.{◌≡◌, sym, ◌∙◌, subst}
-use Prim.Native.Nat.{◌-◌}
+-- `text_grammar::rules_stand` meets its contract: each token keeps the loop's invariant, or decides.
+use mathlib.Core.Path.{◌≡◌, sym, ◌∙◌}
 use native.Mathlib.Omega.{arith}
-use borrow.Author.Tests.{not-true, not-false}
 use lib.ListN.{length}
 use Rattle.texts.specs.Tokens.{opens, closes, comma, arrow}
 use Rattle.text_tokens.specs.Told.{Moves, Named, Told}
 use Rattle.text_tokens.proofs.Places.{tokens_at_end}
 use Rattle.text_grammar.proofs.Simulation
-use Rattle.text_grammar.proofs.Simulation.{Kept, first_follows, kept_on}
+use Rattle.text_grammar.proofs.Simulation.{first_follows, kept_on}
 use Rattle.text_grammar.proofs.rules_stand.Goals as goal
 
 pub loop-i-init : goal.loop-i-init
@@ -22,140 +20,189 @@ loop-i-init c =
     }
 
 pub next_token-requires : goal.next_token-requires
-next_token-requires c = let l = c.loop-i in record { within = l.invariant.within; text_short = l.invariant.text_short }
-
-pub returns-then-depth-gt0 : goal.returns-then-depth-gt0
-returns-then-depth-gt0 c = a c
-
-pub returns-then-not-right : goal.returns-then-not-right
-returns-then-not-right c = name c
+next_token-requires c = record { within = c.loop-i.invariant.within; text_short = c.loop-i.invariant.text_short }
 
 -- A NAME
+pub returns-then-depth-gt0 : goal.returns-then-depth-gt0
+unfolding Told
+returns-then-depth-gt0 c =
+    let n : Named c.args.text.now c.loop-i.i c.in-Name.s c.in-Name.e = rw c.in-Name.is at c.next_token.ensures in
+    λ vs k. Simulation.name_inside (c.loop-i.invariant.follows vs k) _ n.moves c.if-mode-ge-NAMED.true c.if-depth-gt0.true
+
+pub returns-then-not-right : goal.returns-then-not-right
+unfolding Told
+returns-then-not-right c =
+    let n : Named c.args.text.now c.loop-i.i c.in-Name.s c.in-Name.e = rw c.in-Name.is at c.next_token.ensures in
+    λ vs k. Simulation.name_left (c.loop-i.invariant.follows vs k) _ n.moves c.if-mode-ge-NAMED.true c.if-not-right.true
+
+pub loop-i-smaller-else-not-right : goal.loop-i-smaller-else-not-right
+unfolding Told
+loop-i-smaller-else-not-right c =
+    let n : Named c.args.text.now c.loop-i.i c.in-Name.s c.in-Name.e = rw c.in-Name.is at c.next_token.ensures in
+    omega (arith, n.moves.forth, n.moves.within)
+
 pub loop-i-preserved-else-not-right : goal.loop-i-preserved-else-not-right
 unfolding Told
 loop-i-preserved-else-not-right c =
-    let named : Named c.args.text.now c.loop-i.i c.in-Name.s c.in-Name.e = subst (Told c.args.text.now c.loop-i.i) c.in-Name.is c.next_token.ensures in
-    λ vs k. let l = c.loop-i in
-    Simulation.name_inside (l.invariant.follows vs k) _ named.moves c.if-mode-ge-NAMED.true c.if-depth-gt0.true
+    let n : Named c.args.text.now c.loop-i.i c.in-Name.s c.in-Name.e = rw c.in-Name.is at c.next_token.ensures in
+    kept_on c.loop-i.invariant n.moves _ _ _ _ (omega arith) (omega (arith, n.some, n.moves.within))
+    (λ vs k. Simulation.name_next (c.loop-i.invariant.follows vs k) _ n.moves c.if-mode-ge-NAMED.true (omega (arith, c.if-depth-gt0.false)) c.if-not-right.false)
 
 pub loop-i-smaller-else-mode-ge-NAMED : goal.loop-i-smaller-else-mode-ge-NAMED
 unfolding Told
 loop-i-smaller-else-mode-ge-NAMED c =
-    let named : Named c.args.text.now c.loop-i.i c.in-Name.s c.in-Name.e = subst (Told c.args.text.now c.loop-i.i) c.in-Name.is c.next_token.ensures in
-    λ vs k. let l = c.loop-i in
-    Simulation.name_left (l.invariant.follows vs k) _ named.moves c.if-mode-ge-NAMED.true (not-true _ c.if3.true)
+    let n : Named c.args.text.now c.loop-i.i c.in-Name.s c.in-Name.e = rw c.in-Name.is at c.next_token.ensures in
+    omega (arith, n.moves.forth, n.moves.within)
 
 pub loop-i-preserved-else-mode-ge-NAMED : goal.loop-i-preserved-else-mode-ge-NAMED
 unfolding Told
 loop-i-preserved-else-mode-ge-NAMED c =
-    let named : Named c.args.text.now c.loop-i.i c.in-Name.s c.in-Name.e = subst (Told c.args.text.now c.loop-i.i) c.in-Name.is c.next_token.ensures in
-    let m = named.moves in omega (arith, m.forth, m.within)
+    let n : Named c.args.text.now c.loop-i.i c.in-Name.s c.in-Name.e = rw c.in-Name.is at c.next_token.ensures in
+    kept_on c.loop-i.invariant n.moves _ _ _ _ (omega arith) (omega (arith, n.some, n.moves.within))
+    (λ vs k. Simulation.name_wanted (c.loop-i.invariant.follows vs k) _ n.moves c.if-mode-ge-NAMED.false)
 
+-- A LIST BEGINS
 pub returns-then-mode-ne-NAMED : goal.returns-then-mode-ne-NAMED
 unfolding Told
 returns-then-mode-ne-NAMED c =
-    let named : Named c.args.text.now c.loop-i.i c.in-Name.s c.in-Name.e = subst (Told c.args.text.now c.loop-i.i) c.in-Name.is c.next_token.ensures in
-    let m = named.moves in omega (arith, m.forth, m.within)
+    let m : Moves c.args.text.now c.loop-i.i opens c.in-Open.e = rw c.in-Open.is at c.next_token.ensures in
+    λ vs k. Simulation.open_other (c.loop-i.invariant.follows vs k) m c.if-mode-ne-NAMED.true
 
 pub hash-requires : goal.hash-requires
-unfolding Told
-hash-requires c =
-    let named : Named c.args.text.now c.loop-i.i c.in-Name.s c.in-Name.e = subst (Told c.args.text.now c.loop-i.i) c.in-Name.is c.next_token.ensures in
-    let l = c.loop-i in
-    let n = named in
-    kept_on l.invariant n.moves _ _ _ _ (omega arith) (omega (arith, n.some, n.moves.within))
-    (λ vs k. Simulation.name_wanted (l.invariant.follows vs k) _ n.moves c.if1.false)
+hash-requires c = (c.loop-i.invariant.name_within, c.loop-i.invariant.text_short)
 
 pub declared-requires : goal.declared-requires
-declared-requires c = -- c
+declared-requires c = record { names = c.requires.variables; kept = c.requires.kept; within = c.loop-i.invariant.name_within; hash_is = c.hash.ensures.0 }
 
 pub returns-then-declared : goal.returns-then-declared
-returns-then-declared c = a c
+unfolding Told
+returns-then-declared c =
+    let m : Moves c.args.text.now c.loop-i.i opens c.in-Open.e = rw c.in-Open.is at c.next_token.ensures in
+    λ vs k. Simulation.open_variable (c.loop-i.invariant.follows vs k) m c.if-mode-ne-NAMED.false (sym (c.declared.ensures vs k) ∙ c.if-declared.true)
 
 pub overflow_add-depth : goal.overflow_add-depth
-overflow_add-depth c = list c
+overflow_add-depth c = omega (arith, c.loop-i.invariant.shallow, c.loop-i.invariant.within, c.loop-i.invariant.text_short)
 
 pub loop-i-smaller-in-Open : goal.loop-i-smaller-in-Open
-loop-i-smaller-in-Open c = begins c
+unfolding Told
+loop-i-smaller-in-Open c =
+    let m : Moves c.args.text.now c.loop-i.i opens c.in-Open.e = rw c.in-Open.is at c.next_token.ensures in
+    omega (arith, m.forth, m.within)
 
+pub loop-i-preserved-in-Open : goal.loop-i-preserved-in-Open
+unfolding Told
+loop-i-preserved-in-Open c =
+    let m : Moves c.args.text.now c.loop-i.i opens c.in-Open.e = rw c.in-Open.is at c.next_token.ensures in
+    kept_on c.loop-i.invariant m _ _ _ _ (omega arith) c.loop-i.invariant.name_within
+    (λ vs k. Simulation.open_list (c.loop-i.invariant.follows vs k) m c.if-mode-ne-NAMED.false (sym (c.declared.ensures vs k) ∙ c.if-declared.false))
+
+-- A LIST ENDS, or the rules do
 pub returns-then-mode-eq-WANTED : goal.returns-then-mode-eq-WANTED
-returns-then-mode-eq-WANTED c = let l = c.loop-i in (l.invariant.name_within, l.invariant.text_short)
+unfolding Told
+returns-then-mode-eq-WANTED c =
+    let m : Moves c.args.text.now c.loop-i.i closes c.in-Close.e = rw c.in-Close.is at c.next_token.ensures in
+    λ vs k. Simulation.close_wanted (c.loop-i.invariant.follows vs k) m c.if-mode-eq-WANTED.true
 
 pub at_end-requires : goal.at_end-requires
+unfolding Told
 at_end-requires c =
-    let q = c.requires in
-    record { names = q.variables; kept = q.kept; within = c.loop-i.invariant.name_within; hash_is = c.hash.ensures.0 }
+    let m : Moves c.args.text.now c.loop-i.i closes c.in-Close.e = rw c.in-Close.is at c.next_token.ensures in
+    record { within = m.within; text_short = c.loop-i.invariant.text_short }
 
 pub returns-then-right : goal.returns-then-right
 unfolding Told
 returns-then-right c =
-    let opened : Moves c.args.text.now c.loop-i.i opens c.in-Open.e = subst (Told c.args.text.now c.loop-i.i) c.in-Open.is c.next_token.ensures in
-    λ vs k. let l = c.loop-i in
-    Simulation.open_variable (l.invariant.follows vs k) opened c.if4.false (sym (c.before.declared.ensures vs k) ∙ c.if5.true)
+    let m : Moves c.args.text.now c.loop-i.i closes c.in-Close.e = rw c.in-Close.is at c.next_token.ensures in
+    λ vs k. Simulation.close_last (c.loop-i.invariant.follows vs k) m c.if-mode-eq-WANTED.false c.if-depth-eq0.true c.if-right.true _ c.at_end.ensures
 
 pub returns-then-depth-eq0 : goal.returns-then-depth-eq0
-returns-then-depth-eq0 c = let l = c.loop-i in omega (arith, l.invariant.shallow, l.invariant.within, l.invariant.text_short)
-
-pub overflow_sub-depth : goal.overflow_sub-depth
 unfolding Told
-overflow_sub-depth c =
-    let opened : Moves c.args.text.now c.loop-i.i opens c.in-Open.e = subst (Told c.args.text.now c.loop-i.i) c.in-Open.is c.next_token.ensures in
-    let m = opened in omega (arith, m.forth, m.within)
+returns-then-depth-eq0 c =
+    let m : Moves c.args.text.now c.loop-i.i closes c.in-Close.e = rw c.in-Close.is at c.next_token.ensures in
+    λ vs k. Simulation.close_left (c.loop-i.invariant.follows vs k) m c.if-mode-eq-WANTED.false c.if-depth-eq0.true c.if-right.false
 
 pub loop-i-smaller-in-Close : goal.loop-i-smaller-in-Close
 unfolding Told
 loop-i-smaller-in-Close c =
-    let opened : Moves c.args.text.now c.loop-i.i opens c.in-Open.e = subst (Told c.args.text.now c.loop-i.i) c.in-Open.is c.next_token.ensures in
-    let l = c.loop-i in
-    kept_on l.invariant opened _ _ _ _ (omega arith) l.invariant.name_within
-    (λ vs k. Simulation.open_list (l.invariant.follows vs k) opened c.if4.false (sym (c.before.declared.ensures vs k) ∙ c.if5.false))
+    let m : Moves c.args.text.now c.loop-i.i closes c.in-Close.e = rw c.in-Close.is at c.next_token.ensures in
+    omega (arith, m.forth, m.within)
 
 pub loop-i-preserved-in-Close : goal.loop-i-preserved-in-Close
-loop-i-preserved-in-Close c = -- c
+unfolding Told
+loop-i-preserved-in-Close c =
+    let m : Moves c.args.text.now c.loop-i.i closes c.in-Close.e = rw c.in-Close.is at c.next_token.ensures in
+    kept_on c.loop-i.invariant m _ _ _ _ (omega arith) c.loop-i.invariant.name_within
+    (λ vs k. Simulation.close_list (c.loop-i.invariant.follows vs k) m c.if-mode-eq-WANTED.false c.if-depth-eq0.false)
 
+-- A COMMA
 pub returns-then-mode-lt-NAMED : goal.returns-then-mode-lt-NAMED
-returns-then-mode-lt-NAMED c = list c
+unfolding Told
+returns-then-mode-lt-NAMED c =
+    let m : Moves c.args.text.now c.loop-i.i comma c.in-Comma.e = rw c.in-Comma.is at c.next_token.ensures in
+    λ vs k. Simulation.comma_early (c.loop-i.invariant.follows vs k) m c.if-mode-lt-NAMED.true
 
 pub returns-then-depth-eq0-2 : goal.returns-then-depth-eq0-2
-returns-then-depth-eq0-2 c = ends, c
+unfolding Told
+returns-then-depth-eq0-2 c =
+    let m : Moves c.args.text.now c.loop-i.i comma c.in-Comma.e = rw c.in-Comma.is at c.next_token.ensures in
+    λ vs k. Simulation.comma_outside (c.loop-i.invariant.follows vs k) m c.if-mode-lt-NAMED.false c.if-depth-eq0-2.true
 
 pub loop-i-smaller-in-Comma : goal.loop-i-smaller-in-Comma
-loop-i-smaller-in-Comma c = or c
+unfolding Told
+loop-i-smaller-in-Comma c =
+    let m : Moves c.args.text.now c.loop-i.i comma c.in-Comma.e = rw c.in-Comma.is at c.next_token.ensures in
+    omega (arith, m.forth, m.within)
 
 pub loop-i-preserved-in-Comma : goal.loop-i-preserved-in-Comma
-loop-i-preserved-in-Comma c = the c
+unfolding Told
+loop-i-preserved-in-Comma c =
+    let m : Moves c.args.text.now c.loop-i.i comma c.in-Comma.e = rw c.in-Comma.is at c.next_token.ensures in
+    kept_on c.loop-i.invariant m _ _ _ _ (omega arith) c.loop-i.invariant.name_within
+    (λ vs k. Simulation.comma_next (c.loop-i.invariant.follows vs k) m c.if-mode-lt-NAMED.false c.if-depth-eq0-2.false)
 
+-- AN ARROW
 pub returns-then-mode-lt-NAMED-2 : goal.returns-then-mode-lt-NAMED-2
-returns-then-mode-lt-NAMED-2 c = do c
+unfolding Told
+returns-then-mode-lt-NAMED-2 c =
+    let m : Moves c.args.text.now c.loop-i.i arrow c.in-Arrow.e = rw c.in-Arrow.is at c.next_token.ensures in
+    λ vs k. Simulation.arrow_early (c.loop-i.invariant.follows vs k) m c.if-mode-lt-NAMED-2.true
 
--- A LIST ENDS, or the rules do
+pub returns-then-depth-gt0-2 : goal.returns-then-depth-gt0-2
+unfolding Told
+returns-then-depth-gt0-2 c =
+    let m : Moves c.args.text.now c.loop-i.i arrow c.in-Arrow.e = rw c.in-Arrow.is at c.next_token.ensures in
+    λ vs k. Simulation.arrow_inside (c.loop-i.invariant.follows vs k) m c.if-mode-lt-NAMED-2.false c.if-depth-gt0-2.true
+
 pub returns-then-right-2 : goal.returns-then-right-2
 unfolding Told
 returns-then-right-2 c =
-    let closed : Moves c.args.text.now c.loop-i.i closes c.in-Close.e = subst (Told c.args.text.now c.loop-i.i) c.in-Close.is c.next_token.ensures in
-    λ vs k. let l = c.loop-i in
-    Simulation.close_wanted (l.invariant.follows vs k) closed c.if6.true
+    let m : Moves c.args.text.now c.loop-i.i arrow c.in-Arrow.e = rw c.in-Arrow.is at c.next_token.ensures in
+    λ vs k. Simulation.arrow_twice (c.loop-i.invariant.follows vs k) m c.if-mode-lt-NAMED-2.false c.if-right-2.true
 
 pub loop-i-smaller : goal.loop-i-smaller
 unfolding Told
 loop-i-smaller c =
-    let closed : Moves c.args.text.now c.loop-i.i closes c.in-Close.e = subst (Told c.args.text.now c.loop-i.i) c.in-Close.is c.next_token.ensures in
-    record { within = closed.within; text_short = c.loop-i.invariant.text_short }
+    let m : Moves c.args.text.now c.loop-i.i arrow c.in-Arrow.e = rw c.in-Arrow.is at c.next_token.ensures in
+    omega (arith, m.forth, m.within)
 
 pub loop-i-preserved : goal.loop-i-preserved
 unfolding Told
 loop-i-preserved c =
-    let closed : Moves c.args.text.now c.loop-i.i closes c.in-Close.e = subst (Told c.args.text.now c.loop-i.i) c.in-Close.is c.next_token.ensures in
-    λ vs k. let l = c.loop-i in
-    Simulation.close_last (l.invariant.follows vs k) closed c.before.if6.false c.if7.true c.before.if8.true _ c.at_end.ensures
+    let m : Moves c.args.text.now c.loop-i.i arrow c.in-Arrow.e = rw c.in-Arrow.is at c.next_token.ensures in
+    kept_on c.loop-i.invariant m _ _ _ _ (omega arith) c.loop-i.invariant.name_within
+    (λ vs k. Simulation.arrow_next (c.loop-i.invariant.follows vs k) m c.if-mode-lt-NAMED-2.false (omega (arith, c.if-depth-gt0-2.false)) c.if-right-2.false)
+
+-- NO TOKEN
+pub returns-in-Bad : goal.returns-in-Bad
+unfolding Told
+returns-in-Bad c = λ vs k. Simulation.bad_follows (c.loop-i.invariant.follows vs k) (rw c.in-Bad.is at c.next_token.ensures)
 
 pub returns-in-End : goal.returns-in-End
 unfolding Told
-returns-in-End c =
-    let closed : Moves c.args.text.now c.loop-i.i closes c.in-Close.e = subst (Told c.args.text.now c.loop-i.i) c.in-Close.is c.next_token.ensures in
-    let l = c.loop-i in
-    kept_on l.invariant closed _ _ _ _ (omega arith) l.invariant.name_within
-    (λ vs k. Simulation.close_list (l.invariant.follows vs k) closed c.before.if6.false c.if7.false)
+returns-in-End c = λ vs k. Simulation.none_follows (c.loop-i.invariant.follows vs k) (rw c.in-End.is at c.next_token.ensures)
 
 pub returns : goal.returns
-returns c = -- c
+returns c =
+    let l = c.loop-i in
+    let e : l.i ≡ length c.args.text.now = omega (arith, l.invariant.within, c.loop-i-test.false) in
+    λ vs k. Simulation.none_follows (l.invariant.follows vs k) (rw e (tokens_at_end c.args.text.now))

@@ -2,8 +2,7 @@
 use Rattle.std.proofs.Common.{◌≡◌, ℕ, ◌<◌, ◌≤◌, min, cond, eqb, List, length, get_or, set, sym, refl, ◌∙◌, arith, length-set, get_or-set_other, get_or-set_same, rules, ne_eqb, eqb-true}
 use borrow.Author.Tests.{eqb-false}
 use Rattle.rewriting.proofs.Basics.{by_test}
-use Rattle.partition.proofs.lower.Statement.{statement}
-use Rattle.partition.proofs.lower.Tie as tie
+use Rattle.partition.proofs.lower.Goals as goal
 
 module _ (ls : List ℕ) (s n t : ℕ) where
   abbrev low : ℕ
@@ -21,26 +20,15 @@ module _ (ls : List ℕ) (s n t : ℕ) where
   kept : get_or ls s 0 ≤ n → get_or ls t 0 ≡ low
   kept k = by_test (eqb s t) (λ e. let z : s ≡ t = eqb-true s t e in let l : get_or ls t 0 ≤ n = rw (← z) k in rw e (omega arith)) (λ e. rw e)
 
-returns : tie.Need-returns
-returns c = let a = c.before.args in record { long = refl; lowered = λ t h. outside a.lows.now a.s a.number t c.if1.true h }
+pub returns-then-lows-s : goal.returns-then-lows-s
+returns-then-lows-s c =
+    let a = c.args in record { long = refl; lowered = λ t h. outside a.lows.now a.s a.number t c.if-lows-s.true h }
 
-returns_2 : tie.Need-returns-2
-returns_2 c =
-    let a = c.before.before.before.args in
-    record { long = simp length-set; lowered = λ t h. lowered a.lows.now a.s a.number t (omega arith) c.if2.true }
+pub returns-then-number-lows : goal.returns-then-number-lows
+returns-then-number-lows c =
+    let a = c.args in
+    record { long = simp length-set; lowered = λ t h. lowered a.lows.now a.s a.number t (omega arith) c.if-number-lows.true }
 
-returns_3 : tie.Need-returns-3
-returns_3 c = let a = c.before.before.before.args in record { long = refl; lowered = λ t h. kept a.lows.now a.s a.number t c.if2.false }
-
-pub lower_spec : {M : Type 1} → statement M
-lower_spec =
-    tie.close
-    (tie.spec
-    returns
-    (λ c. search rules)
-    (λ c. search rules)
-    (λ c. search rules)
-    (λ c. search rules)
-    (λ c. search rules)
-    returns_2
-    returns_3)
+pub returns-else-number-lows : goal.returns-else-number-lows
+returns-else-number-lows c =
+    let a = c.args in record { long = refl; lowered = λ t h. kept a.lows.now a.s a.number t c.if-number-lows.false }
