@@ -69,7 +69,7 @@ has_left_snoc done w c =
 pub present_none : (cs : List Call) → present [] cs ≡ cs
 unfolding present without left_under
 present_none [] = refl
-present_none (c ∷ cs) = rw (le-ltb 0 0 (omega arith)) (ap (λ (ds : List Call). c ∷ ds) (present_none cs))
+present_none (c ∷ cs) = ap (λ (ds : List Call). c ∷ ds) (present_none cs)
 
 pub present_snoc : (done : List Weighting) (w : Weighting) (cs : List Call) → without (call_falls w) (present done cs) ≡ present (done ++ (w ∷ [])) cs
 unfolding present without

@@ -56,7 +56,7 @@ loop-s-preserved c =
           none_more a.asked own l.s (l.invariant.2 a none)
           (⊎_elim
           (λ w. none_reached a.asked own l.s h (sym (w.reaches_to.ensures (asked_of a.asked l.s h)) ∙ w.if-reaches_to.false))
-          (λ w. no_lower a.asked own l.s _ h difference.ensures.value difference.type_inv w.if-wrapping_sub_u32-own)
+          (λ w. no_lower a.asked own l.s _ h difference.ensures.value difference.type_inv w.if-wrapping_sub_u32-own.false)
           c.if-wrapping_sub_u32-own.branch-raw),
     )
 

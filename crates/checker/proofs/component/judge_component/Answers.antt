@@ -10,8 +10,7 @@ use Rattle.checker.specs.Working.{NumbersTell, ComponentAsked, UnweightedAsked, 
 use Rattle.checker.proofs.Positions.{no_weightings, weightings_read, pairs_read}
 use Rattle.checker.proofs.Tallies.{none_changed}
 use Rattle.checker.proofs.Known.{known_without}
-use Rattle.checker.proofs.component.judge_component.Statement.{statement}
-use Rattle.checker.proofs.component.judge_component.Tie as tie
+use Rattle.checker.proofs.component.judge_component.Goals as goal
 
 module _
     {cert : List ℕ} {at : ℕ} {r : Record} {first before rules : ℕ} {ar ss ns ms table lefts : List ℕ} (a : ComponentAsked cert at r first before rules ar ss ns ms table lefts) where
@@ -38,28 +37,26 @@ module _
   without_told : r.b ≡ 0 → NumbersTell a.kept.system a.there.component.weightings a.there.component.pairs first lefts
   without_told h = subst (λ (ws : List Weighting). NumbersTell a.kept.system ws a.there.component.pairs first lefts) (sym (no_weightings _ (without h).none)) a.all_present
 
-abbrev start : tie.After-struct-known → tie.Start
-start c = c.before.before.before.before
+pub unweighted-answer-requires : goal.unweighted-answer-requires
+unweighted-answer-requires c = without c.requires c.if-header-eq0.true
 
-returns : tie.Need-returns
-returns c =
-    let tested = c.before in
-    let h = tested.if1.true in
+pub returns-then-header-eq0 : goal.returns-then-header-eq0
+returns-then-header-eq0 c =
+    let h = c.if-header-eq0.true in
     record {
-      unmarked = (start tested.before).requires.unmarked;
+      unmarked = c.requires.unmarked;
       others = λ a. none_changed _ _ _;
-      judged = λ a. c.unweighted.ensures (without a h);
+      judged = λ a. c.unweighted-answer.ensures (without a h);
       known = λ a. known_without a.there.component a.known;
       numbers = λ a _. without_told a h;
     }
 
--- the C record tells of a weighting
-abbrev tested : tie.After-weighted-arg2 → tie.Else1
-tested c = c.before.before.before.before
+pub weighted-requires : goal.weighted-requires
+weighted-requires c = with_some c.requires c.if-header-eq0.false
 
-returns_2 : tie.Need-returns-2
-returns_2 c =
-    let some = (tested c.before).if1.false in
+pub returns : goal.returns
+returns c =
+    let some = c.if-header-eq0.false in
     let told = c.weighted.ensures in
     record {
       unmarked = told.unmarked;
@@ -68,14 +65,3 @@ returns_2 c =
       known = λ a. told.known (with_some a some);
       numbers = λ a h. told.numbers (with_some a some) h;
     }
-
-pub judge_component_spec : {M : Type 1} → statement M
-judge_component_spec =
-    tie.close
-    (tie.spec
-    (λ c κs. without (start c.before).requires c.if1.true)
-    returns
-    (λ c. search rules)
-    (λ c. search rules)
-    (λ c κs. with_some (start (tested c).before).requires (tested c).if1.false)
-    returns_2)

@@ -12,26 +12,10 @@ use Rattle.records.specs.Records.{record_at}
 use Rattle.polynomials.specs.Polynomials.{Weight}
 use Rattle.weights.specs.Table.{CellsAre}
 use Rattle.checker.specs.Working.{WeightsAt, own_base, OthersStay, Filled}
-use Rattle.checker.proofs.Tables.{In-table, Rise, bases_small, others_stay, one_filled}
+use Rattle.checker.proofs.Tables.{InTable, Rise, bases_small, others_stay, one_filled}
 use Rattle.checker.proofs.Runs.{GoesOn, fillable_small, none_at_end, none_at_other, goes_on}
-use Rattle.checker.proofs.weighing.fill.Statement.{statement}
-use Rattle.checker.proofs.weighing.fill.Tie as tie
-
--- of the weights `ws`, `done` are in their cells, and `left` stand from record `at` on
-pub record Filling (cert : List ℕ) (from kind : ℕ) (ws : List Weight) (table : List ℕ) (at : ℕ) : Type 0 where
-  pub done : List Weight
-  pub left : List Weight
-  pub both : done ++ left ≡ ws
-  pub passed : at ≡ from + length done
-  pub stand : WeightsAt cert at kind left
-  pub filled : CellsAre (own_base kind) table done
-
-abbrev invariant-loop : tie.invariant-loop
-invariant-loop certificate from kind table₀ n at₀ table at =
-    ((ws : List Weight) → WeightsAt certificate from kind ws → Filling certificate from kind ws table at) × OthersStay kind table₀ table
-
-abbrev decreases-loop : tie.decreases-loop
-decreases-loop certificate from kind table₀ n at₀ table at = n - at
+use Rattle.checker.proofs.weighing.fill.Invariants.{Filling}
+use Rattle.checker.proofs.weighing.fill.Goals as goal
 
 module _ {cert : List ℕ} {from kind : ℕ} {ws : List Weight} (a : WeightsAt cert from kind ws) where
   at_first : {table : List ℕ} → CellsAre (own_base kind) table [] → Filling cert from kind ws table from
@@ -59,10 +43,10 @@ module _ {cert : List ℕ} {from kind : ℕ} {ws : List Weight} (a : WeightsAt c
       rise : Rise (s.done ++ (g.first ∷ g.others))
       rise = rw parts a.fillable.rise
 
-      small : Each In-table (s.done ++ (g.first ∷ g.others))
+      small : Each InTable (s.done ++ (g.first ∷ g.others))
       small = rw parts (fillable_small a.fillable)
 
-      next_small : In-table g.first
+      next_small : InTable g.first
       next_small = each_head (each_right s.done (g.first ∷ g.others) small)
 
       next_in_table : (r.a < 64) × (r.b ≤ 8)
@@ -85,51 +69,41 @@ answer :
     Filled cert from kind before after r
 answer found others = record { ends = λ ws a. (found ws a).0; holds = λ ws a. (found ws a).1; others = others }
 
--- in a turn the record of the kind has a cell, since it is that of one of the weights that the contract asks for
-in_table : (c : tie.Else1 invariant-loop decreases-loop) → (c.before.before.record_at.result.a < 64) × (c.before.before.record_at.result.b ≤ 8)
-in_table c =
-    let read = c.before.before in
-    let asked = read.before.before.before.before.requires in
-    let s = read.before.before.loop.invariant.0 asked.weights asked.stand in
-    next_in_table asked.stand s (goes_on s.stand read.before.loop-test.true read.record_at.ensures c.if1.false)
-
-holds : tie.Need-loop-init invariant-loop decreases-loop
+pub loop-at-init : goal.loop-at-init
 unfolding OthersStay
-holds c = (λ ws a. at_first a c.before.requires.empty, λ vs h. h)
+loop-at-init c = (λ ws a. at_first a c.requires.empty, λ vs h. h)
 
-again : tie.Need-loop-preserved invariant-loop decreases-loop
+pub returns-then-r-kind : goal.returns-then-r-kind
+returns-then-r-kind c =
+    let l = c.loop-at in
+    answer (λ ws a. at_other a (l.invariant.0 ws a) c.loop-at-test.true c.record_at-r.ensures c.if-r-kind.true) l.invariant.1
+
+pub store-requires : goal.store-requires
+store-requires c =
+    let in_table : (c.record_at-r.result.a < 64) × (c.record_at-r.result.b ≤ 8) = let asked = c.requires in
+    let s = c.loop-at.invariant.0 asked.weights asked.stand in
+    next_in_table asked.stand s (goes_on s.stand c.loop-at-test.true c.record_at-r.ensures c.if-r-kind.false) in
+    in_table
+
+pub loop-at-preserved : goal.loop-at-preserved
 unfolding OthersStay
-again c =
-    let same = c.before.before in
-    let read = same.before.before in
-    let l = read.before.before.loop in
-    let kind = read.before.before.before.before.args.kind in
-    let r = read.record_at.result in
-    let small = in_table same in
-    let e : c.store.new.0 ≡ set l.table (own_base kind + (9 * r.a + r.b)) r.c =
-    c.store.ensures ∙ ap (λ k. set l.table (own_base k + (9 * r.a + r.b)) r.c) same.if1.false in
+loop-at-preserved c =
+    let in_table : (c.record_at-r.result.a < 64) × (c.record_at-r.result.b ≤ 8) = let asked = c.requires in
+    let s = c.loop-at.invariant.0 asked.weights asked.stand in
+    next_in_table asked.stand s (goes_on s.stand c.loop-at-test.true c.record_at-r.ensures c.if-r-kind.false) in
+    let l = c.loop-at in
+    let kind = c.args.kind in
+    let r = c.record_at-r.result in
+    let small = in_table in
+    let e : c.store.new.table ≡ set l.table (own_base kind + (9 * r.a + r.b)) r.c =
+    c.store.ensures ∙ ap (λ k. set l.table (own_base k + (9 * r.a + r.b)) r.c) c.if-r-kind.false in
     rw e (
       λ ws a.
           let s = l.invariant.0 ws a in
-          next_filled a s (goes_on s.stand read.before.loop-test.true read.record_at.ensures same.if1.false),
+          next_filled a s (goes_on s.stand c.loop-at-test.true c.record_at-r.ensures c.if-r-kind.false),
       λ vs h. others_stay kind l.table r.a r.b r.c small.0 small.1 vs (l.invariant.1 vs h),
     )
 
-pub fill_spec : {M : Type 1} → statement M
-fill_spec =
-    tie.close
-    (tie.spec
-    invariant-loop
-    decreases-loop
-    holds
-    (λ c. omega arith)
-    (λ c κs. omega arith)
-    (λ c.
-    let read = c.before.before in
-    let l = read.before.before.loop in
-    answer (λ ws a. at_other a (l.invariant.0 ws a) read.before.loop-test.true read.record_at.ensures c.if1.true) l.invariant.1)
-    (λ c κs. in_table c.before)
-    (λ c. omega arith)
-    (λ c. omega arith)
-    again
-    (λ c. let l = c.before.loop in answer (λ ws a. at_end a (l.invariant.0 ws a) c.loop-test.false) l.invariant.1))
+pub returns : goal.returns
+returns c =
+    let l = c.loop-at in answer (λ ws a. at_end a (l.invariant.0 ws a) c.loop-at-test.false) l.invariant.1

@@ -7,40 +7,24 @@ use lib.ListN.{get_or, set}
 use lib.Seq.{set-get_or}
 use Rattle.weights.specs.declared.PairVerdict.{PairVerdict}
 use Rattle.checker.specs.Working.{number_after}
-use Rattle.checker.proofs.weighing.renumber.Statement.{statement}
-use Rattle.checker.proofs.weighing.renumber.Tie as tie
+use Rattle.checker.proofs.weighing.renumber.Goals as goal
 
 as_it_was : (lefts : List ℕ) (at n : ℕ) {v x : PairVerdict} → get_or lefts at 0 ≡ n → v ≡ x → number_after x n ≡ n → lefts ≡ set lefts at (number_after v n)
 as_it_was lefts at n there e same =
     sym (set-get_or lefts at 0) ∙ ap (set lefts at) (there ∙ sym (ap (λ (y : PairVerdict). number_after y n) e ∙ same))
 
-returns : tie.Need-returns
+pub returns-in-Over : goal.returns-in-Over
 unfolding number_after
-returns c = as_it_was _ _ _ c.before.before.requires.2 c.enum_told.given.1 refl
+returns-in-Over c = as_it_was _ _ _ c.requires.2 c.in-Over.is refl
 
-returns_2 : tie.Need-returns-2
+pub returns-in-Rises : goal.returns-in-Rises
 unfolding number_after
-returns_2 c = as_it_was _ _ _ c.before.before.requires.2 c.enum_told2.given.1 refl
+returns-in-Rises c = as_it_was _ _ _ c.requires.2 c.in-Rises.is refl
 
-returns_3 : tie.Need-returns-3
+pub returns-in-Stays : goal.returns-in-Stays
 unfolding number_after
-returns_3 c = rw c.enum_told3.given.1
+returns-in-Stays c = rw c.in-Stays.is
 
-returns_4 : tie.Need-returns-4
+pub returns-in-Falls : goal.returns-in-Falls
 unfolding number_after
-returns_4 c = as_it_was _ _ _ c.before.before.requires.2 c.enum_told4.given.1 refl
-
-pub renumber_spec : {M : Type 1} → statement M
-renumber_spec =
-    tie.close
-    (tie.spec
-    (λ c. search rules)
-    returns
-    (λ c. search rules)
-    returns_2
-    (λ c. search rules)
-    (λ c. search rules)
-    (λ c. search rules)
-    returns_3
-    (λ c. search rules)
-    returns_4)
+returns-in-Falls c = as_it_was _ _ _ c.requires.2 c.in-Falls.is refl

@@ -27,8 +27,7 @@ use Rattle.checker.specs.Working.{ComponentJudged, answered, record_count, Unwei
 use Rattle.judging.proofs.Components.{only_arc}
 use Rattle.checker.proofs.FromStore.{pair_in_rules}
 use Rattle.checker.proofs.Positions.{no_weightings, pairs_here, pair_here}
-use Rattle.checker.proofs.component.unweighted.Statement.{statement}
-use Rattle.checker.proofs.component.unweighted.Tie as tie
+use Rattle.checker.proofs.component.unweighted.Goals as goal
 
 number_of_none : (p : System) (c : Component) → c.weightings ≡ [] → length c.pairs ≡ 1 →
     let q = get_or c.pairs 0 (a_pair 0 0) in component_refusal p (plain p) c ≡ cond (arc p q q) 10 0
@@ -95,49 +94,42 @@ module _ {cert : List ℕ} {at rules : ℕ} {ar ss ns ms : List ℕ} (a : Unweig
       unfolding ComponentJudged answered
       passes h = rw (number, ← self_arc, h, counted)
 
--- the record of its pair is there, and names a rule
-next_within : (c : tie.Start) → c.args.at + 1 < length c.args.certificate.now / 8
-next_within c = (its_record c.requires).0
+pub overflow_add-at : goal.overflow_add-at
+overflow_add-at c =
+    let next_within : c.args.at + 1 < length c.args.certificate.now / 8 = (its_record c.requires).0 in
+    omega (arith, next_within)
 
-abbrev start : tie.After-record-at → tie.Start
-start c = c.before.before.before.before
+pub overflow_mul-at : goal.overflow_mul-at
+overflow_mul-at c =
+    let next_within : c.args.at + 1 < length c.args.certificate.now / 8 = (its_record c.requires).0 in
+    omega (arith, next_within)
 
-its_rule : (c : tie.After-record-at) → c.record_at.result.a < (start c).args.rules
-its_rule c = in_rules (start c).requires c.record_at.ensures
+pub record_at-r-requires : goal.record_at-r-requires
+record_at-r-requires c =
+    let next_within : c.args.at + 1 < length c.args.certificate.now / 8 = (its_record c.requires).0 in
+    omega (arith, next_within)
 
-requires : tie.Need-arc-from-requires
-requires c κs =
-    let read = c.before.before.before.before.before in
-    asked (start read).requires read.record_at.ensures
+pub bounds-starts-rule : goal.bounds-starts-rule
+bounds-starts-rule c =
+    let its_rule : c.record_at-r.result.a < c.args.rules = in_rules c.requires c.record_at-r.ensures in
+    omega (arith, its_rule)
 
-returns : tie.Need-returns
-returns c =
-    let answered = c.before in
-    let read = answered.before.before.before.before.before.before in
-    λ a. refuses a read.record_at.ensures answered.arc_from.ensures c.if1.true
+pub overflow_cast-right : goal.overflow_cast-right
+overflow_cast-right c = omega (arith, c.shared_slice_known-4-1.given (2 * c.record_at-r.result.a + 1))
 
-returns_2 : tie.Need-returns-2
-returns_2 c =
-    let answered = c.before in
-    let read = answered.before.before.before.before.before.before in
-    λ a. passes a read.record_at.ensures answered.arc_from.ensures c.if1.false
+pub overflow_add-right-2 : goal.overflow_add-right-2
+overflow_add-right-2 c = omega (arith, c.shared_slice_known-4-1.given (2 * c.record_at-r.result.a + 1))
 
-pub unweighted_spec : {M : Type 1} → statement M
-unweighted_spec =
-    tie.close
-    (tie.spec
-    (λ c. omega (arith, next_within c.before.before.before))
-    (λ c. omega (arith, next_within c.before.before.before))
-    (λ c κs. omega (arith, next_within c.before.before.before))
-    (λ c. search rules)
-    (λ c. search rules)
-    (λ c. search rules)
-    (λ c. search rules)
-    (λ c. omega (arith, its_rule c.before.before))
-    (λ c. omega (arith, c.shared_slice_known4.given (2 * c.before.before.record_at.result.a + 1)))
-    (λ c. search rules)
-    (λ c. omega (arith, c.before.shared_slice_known4.given (2 * c.before.before.before.record_at.result.a + 1)))
-    requires
-    returns
-    (λ c. omega (arith, next_within (start c.before.before.before.before.before.before.before)))
-    returns_2)
+pub arc_from-requires : goal.arc_from-requires
+arc_from-requires c = asked c.requires c.record_at-r.ensures
+
+pub returns-then-arc_from : goal.returns-then-arc_from
+returns-then-arc_from c = λ a. refuses a c.record_at-r.ensures c.arc_from.ensures c.if-arc_from.true
+
+pub overflow_add-result : goal.overflow_add-result
+overflow_add-result c =
+    let next_within : c.args.at + 1 < length c.args.certificate.now / 8 = (its_record c.requires).0 in
+    omega (arith, next_within)
+
+pub returns : goal.returns
+returns c = λ a. passes a c.record_at-r.ensures c.arc_from.ensures c.if-arc_from.false

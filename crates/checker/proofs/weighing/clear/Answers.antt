@@ -10,16 +10,9 @@ use Rattle.records.specs.declared.Record.{Record}
 use Rattle.records.specs.Records.{record_at}
 use Rattle.weights.specs.Table.{CellsAre}
 use Rattle.checker.specs.Working.{own_base, OthersStay, ClearAsked}
-use Rattle.checker.proofs.Tables.{In-table, entry, bases_small, others_stay, one_cleared}
+use Rattle.checker.proofs.Tables.{InTable, entry, bases_small, others_stay, one_cleared}
 use Rattle.checker.proofs.Runs.{GoesOn, fillable_small, none_at_end, none_at_other, goes_on}
-use Rattle.checker.proofs.weighing.clear.Statement.{statement}
-use Rattle.checker.proofs.weighing.clear.Tie as tie
-
-abbrev invariant-loop : tie.invariant-loop
-invariant-loop certificate from kind table₀ n at₀ table at = ClearAsked certificate at kind table × OthersStay kind table₀ table
-
-abbrev decreases-loop : tie.decreases-loop
-decreases-loop certificate from kind table₀ n at₀ table at = n - at
+use Rattle.checker.proofs.weighing.clear.Goals as goal
 
 module _ {cert : List ℕ} {at kind : ℕ} {table : List ℕ} (a : ClearAsked cert at kind table) where
   -- none is left at the end
@@ -33,7 +26,7 @@ module _ {cert : List ℕ} {at kind : ℕ} {table : List ℕ} (a : ClearAsked ce
 
   -- a record of the kind is the first weight's: it has its entry, and is taken from there
   module _ {r : Record} (g : GoesOn cert at kind r a.weights) where
-    small : Each In-table (g.first ∷ g.others)
+    small : Each InTable (g.first ∷ g.others)
     small = rw g.both at (fillable_small a.stand.fillable)
 
     first_in_table : (r.a < 64) × (r.b ≤ 8)
@@ -45,48 +38,38 @@ module _ {cert : List ℕ} {at kind : ℕ} {table : List ℕ} (a : ClearAsked ce
     next_cleared : ClearAsked cert (at + 1) kind (set table (own_base kind + (9 * r.a + r.b)) 0)
     next_cleared = record { weights = g.others; stand = g.next; held = rw g.is cleared }
 
-in_table : (c : tie.Else1 invariant-loop decreases-loop) → (c.before.before.record_at.result.a < 64) × (c.before.before.record_at.result.b ≤ 8)
-in_table c =
-    let read = c.before.before in
-    let asked = read.before.before.loop.invariant.0 in
-    first_in_table asked (goes_on asked.stand read.before.loop-test.true read.record_at.ensures c.if1.false)
-
-holds : tie.Need-loop-init invariant-loop decreases-loop
+pub loop-at-init : goal.loop-at-init
 unfolding OthersStay
-holds c = (c.before.requires, λ vs h. h)
+loop-at-init c = (c.requires, λ vs h. h)
 
-again : tie.Need-loop-preserved invariant-loop decreases-loop
+pub returns-then-r-kind : goal.returns-then-r-kind
+returns-then-r-kind c =
+    let l = c.loop-at in
+    record { empty = at_other l.invariant.0 c.loop-at-test.true c.record_at-r.ensures c.if-r-kind.true; others = l.invariant.1 }
+
+pub store-requires : goal.store-requires
+store-requires c =
+    let in_table : (c.record_at-r.result.a < 64) × (c.record_at-r.result.b ≤ 8) = let asked = c.loop-at.invariant.0 in
+    first_in_table asked (goes_on asked.stand c.loop-at-test.true c.record_at-r.ensures c.if-r-kind.false) in
+    in_table
+
+pub loop-at-preserved : goal.loop-at-preserved
 unfolding OthersStay
-again c =
-    let same = c.before.before in
-    let read = same.before.before in
-    let l = read.before.before.loop in
+loop-at-preserved c =
+    let in_table : (c.record_at-r.result.a < 64) × (c.record_at-r.result.b ≤ 8) = let asked = c.loop-at.invariant.0 in
+    first_in_table asked (goes_on asked.stand c.loop-at-test.true c.record_at-r.ensures c.if-r-kind.false) in
+    let l = c.loop-at in
     let asked = l.invariant.0 in
-    let kind = read.before.before.before.before.args.kind in
-    let r = read.record_at.result in
-    let small = in_table same in
-    let e : c.store.new.0 ≡ set l.table (own_base kind + (9 * r.a + r.b)) 0 =
-    c.store.ensures ∙ ap (λ k. set l.table (own_base k + (9 * r.a + r.b)) 0) same.if1.false in
+    let kind = c.args.kind in
+    let r = c.record_at-r.result in
+    let small = in_table in
+    let e : c.store.new.table ≡ set l.table (own_base kind + (9 * r.a + r.b)) 0 =
+    c.store.ensures ∙ ap (λ k. set l.table (own_base k + (9 * r.a + r.b)) 0) c.if-r-kind.false in
     rw e (
-      next_cleared asked (goes_on asked.stand read.before.loop-test.true read.record_at.ensures same.if1.false),
+      next_cleared asked (goes_on asked.stand c.loop-at-test.true c.record_at-r.ensures c.if-r-kind.false),
       λ vs h. others_stay kind l.table r.a r.b 0 small.0 small.1 vs (l.invariant.1 vs h),
     )
 
-pub clear_spec : {M : Type 1} → statement M
-clear_spec =
-    tie.close
-    (tie.spec
-    invariant-loop
-    decreases-loop
-    holds
-    (λ c. omega arith)
-    (λ c κs. omega arith)
-    (λ c.
-    let read = c.before.before in
-    let l = read.before.before.loop in
-    record { empty = at_other l.invariant.0 read.before.loop-test.true read.record_at.ensures c.if1.true; others = l.invariant.1 })
-    (λ c κs. in_table c.before)
-    (λ c. omega arith)
-    (λ c. omega arith)
-    again
-    (λ c. let l = c.before.loop in record { empty = at_end l.invariant.0 c.loop-test.false; others = l.invariant.1 }))
+pub returns : goal.returns
+returns c =
+    let l = c.loop-at in record { empty = at_end l.invariant.0 c.loop-at-test.false; others = l.invariant.1 }

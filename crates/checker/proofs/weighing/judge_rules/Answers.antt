@@ -1,0 +1,150 @@
+-- `checker::weighing::judge_rules` meets its contract. The loop's invariant: the rules from rule i on are left to judge.
+use mathlib.Core.Path.{◌≡◌}
+use mathlib.Core.Bool.{Bool, true, false, not}
+use mathlib.Core.Logic.{⊎_elim}
+use mathlib.Core.List.{List, [], ◌∷◌}
+use Prim.Native.Nat.{ℕ, ◌+◌, ◌*◌, ◌-◌, ◌≤◌, ◌<◌}
+use native.Mathlib.Numerals.{add-one}
+use native.Mathlib.Omega.{arith}
+use borrow.Author.Rules.{rules}
+use lib.ListN.{get_or, drop, drop_of_length-le}
+use lib.Seq.{drop-cons}
+use Rattle.rewriting.specs.Terms.{System, rule, no_rule}
+use Rattle.weights.specs.declared.Verdict.{Verdict}
+use Rattle.weights.specs.declared.Verdict.TheVariants.{Over, Fails, Holds}
+use Rattle.polynomials.specs.Polynomials.{Weight, Weighting}
+use Rattle.polynomials.specs.Judging.{rule_over, rule_rises}
+use Rattle.weights.specs.Table.{TableIs}
+use Rattle.weights.specs.Working.{Weighable, verdict}
+use Rattle.checker.specs.Working.{rules_verdict, RulesAsked}
+use Rattle.checker.proofs.FromStore.{weighting, left_weighable, right_weighable, rule_answer}
+use Rattle.checker.proofs.Verdicts.{ToJudge, rules_hold, rules_asked, none_judged, some_failed, none_failed, one_over, one_fails, one_holds}
+use Rattle.checker.proofs.weighing.judge_rules.Invariants.{RulesLeft}
+use Rattle.checker.proofs.weighing.judge_rules.Goals as goal
+
+module _
+    {rules : ℕ} {ar ss ns : List ℕ} (a : RulesAsked rules ar ss ns) (ws vs : List Weight) (i : ℕ) {failed : Bool}
+    (left : RulesLeft a.kept.system ws vs i failed) where
+  abbrev p : System
+  p = a.kept.system
+
+  abbrev w : Weighting
+  w = weighting ws vs
+
+  -- at the end
+  module _ (h : rules ≤ i) where
+    none_left : ToJudge (rule_over w) (rules_hold w) p.rules [] failed
+    none_left = rw (drop_of_length-le p.rules {i = i} (omega (arith, a.kept.stored.rules_are))) at left
+
+    fails : failed ≡ true → Fails ≡ rules_verdict p ws vs
+    unfolding rules_verdict
+    fails = some_failed (rules_asked w) none_left
+
+    holds : failed ≡ false → Holds ≡ rules_verdict p ws vs
+    unfolding rules_verdict
+    holds = none_failed (rules_asked w) none_left
+
+  -- rule i is judged
+  module _ (h : i < rules) {x : Verdict}
+      (answer :
+      (l : Weighable ar ns (get_or ss (2 * i) 0) (get_or ss (2 * i + 1) 0 - get_or ss (2 * i) 0))
+      (m : Weighable ar ns (get_or ss (2 * i + 1) 0) (get_or ss (2 * i + 2) 0 - get_or ss (2 * i + 1) 0)) →
+      x ≡ verdict (rule_over w (record { left = l.term; right = m.term })) (not (rule_rises w (record { left = l.term; right = m.term })))) where
+    rule_left : ToJudge (rule_over w) (rules_hold w) p.rules (rule p i ∷ drop (i + 1) p.rules) failed
+    unfolding rule
+    rule_left = rw add-one (rw (drop-cons p.rules i no_rule (omega (arith, a.kept.stored.rules_are))) at left)
+
+    is : x ≡ verdict (rule_over w (rule p i)) (not (rule_rises w (rule p i)))
+    is = rule_answer a.kept.stored i h ws vs answer
+
+    rule_over_limit : x ≡ Over → Over ≡ rules_verdict p ws vs
+    unfolding rules_verdict
+    rule_over_limit = one_over (rules_asked w) rule_left is
+
+    rule_fails : x ≡ Fails → RulesLeft p ws vs (i + 1) true
+    rule_fails = one_fails (rules_asked w) rule_left is
+
+    rule_holds : x ≡ Holds → RulesLeft p ws vs (i + 1) failed
+    rule_holds = one_holds (rules_asked w) rule_left is
+
+pub loop-i-init : goal.loop-i-init
+loop-i-init c = (omega arith, λ a ws vs t. none_judged _ _ _)
+
+pub overflow_mul-left : goal.overflow_mul-left
+overflow_mul-left c = omega (arith, c.requires.kept.arrays.laid.few)
+
+pub offset_bounds-starts-i : goal.offset_bounds-starts-i
+offset_bounds-starts-i c = omega (arith, c.requires.kept.arrays.laid.few)
+
+pub bounds-starts-i : goal.bounds-starts-i
+bounds-starts-i c = omega (arith, c.requires.kept.arrays.laid)
+
+pub overflow_cast-left : goal.overflow_cast-left
+overflow_cast-left c = omega (arith, c.shared_slice_known-in-loop-i-1.given (2 * c.loop-i.i))
+
+pub overflow_mul-right : goal.overflow_mul-right
+overflow_mul-right c = omega (arith, c.requires.kept.arrays.laid)
+
+pub overflow_add-right : goal.overflow_add-right
+overflow_add-right c = omega (arith, c.requires.kept.arrays.laid)
+
+pub offset_bounds-starts-i-in-loop-i : goal.offset_bounds-starts-i-in-loop-i
+offset_bounds-starts-i-in-loop-i c = omega (arith, c.requires.kept.arrays.laid)
+
+pub bounds-starts-i-in-loop-i : goal.bounds-starts-i-in-loop-i
+bounds-starts-i-in-loop-i c = omega (arith, c.requires.kept.arrays.laid)
+
+pub overflow_cast-right : goal.overflow_cast-right
+overflow_cast-right c = omega (arith, c.shared_slice_known-in-loop-i-2-1.given (2 * c.loop-i.i + 1))
+
+pub overflow_mul-end : goal.overflow_mul-end
+overflow_mul-end c = omega (arith, c.requires.kept.arrays.laid)
+
+pub overflow_add-end : goal.overflow_add-end
+overflow_add-end c = omega (arith, c.requires.kept.arrays.laid)
+
+pub offset_bounds-starts-i-in-loop-i-2 : goal.offset_bounds-starts-i-in-loop-i-2
+offset_bounds-starts-i-in-loop-i-2 c = omega (arith, c.requires.kept.arrays.laid)
+
+pub bounds-starts-i-in-loop-i-2 : goal.bounds-starts-i-in-loop-i-2
+bounds-starts-i-in-loop-i-2 c = omega (arith, c.requires.kept.arrays.laid)
+
+pub overflow_cast-end : goal.overflow_cast-end
+overflow_cast-end c = omega (arith, c.shared_slice_known-in-loop-i-3-1.given (2 * c.loop-i.i + 2))
+
+pub judge_rule-requires : goal.judge_rule-requires
+judge_rule-requires c =
+    let i = c.loop-i.i in
+    let kept = c.requires.kept in
+    let s = kept.stored in
+    let h = c.loop-i-test.true in
+    (kept.arrays.nodes_long, left_weighable s i h, right_weighable s i h)
+
+pub returns-in-Over : goal.returns-in-Over
+returns-in-Over c =
+    let l = c.loop-i in
+    λ a ws vs t.
+    rule_over_limit a ws vs l.i (l.invariant.1 a ws vs t) c.loop-i-test.true
+    (λ x y. c.judge_rule.ensures x y ws vs t)
+    c.in-Over.is
+
+pub loop-i-preserved : goal.loop-i-preserved
+loop-i-preserved c =
+    let l = c.loop-i in (
+      omega arith,
+      λ a ws vs t.
+          let left = l.invariant.1 a ws vs t in
+          let h = c.loop-i-test.true in
+          ⊎_elim
+          (λ z. rw z.failed-is (rule_fails a ws vs l.i left h (λ x y. c.judge_rule.ensures x y ws vs t) z.in-Fails.is))
+          (λ z. rw z.failed-is (rule_holds a ws vs l.i left h (λ x y. c.judge_rule.ensures x y ws vs t) z.in-Holds.is))
+          c.match-judge_rule.branch-raw,
+    )
+
+pub returns-then-failed : goal.returns-then-failed
+returns-then-failed c =
+    let l = c.loop-i in λ a ws vs t. fails a ws vs l.i (l.invariant.1 a ws vs t) c.loop-i-test.false c.if-failed.true
+
+pub returns : goal.returns
+returns c =
+    let l = c.loop-i in λ a ws vs t. holds a ws vs l.i (l.invariant.1 a ws vs t) c.loop-i-test.false c.if-failed.false
