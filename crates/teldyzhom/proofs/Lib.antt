@@ -1,5 +1,4 @@
 -- What the entries answer, from the answers of the functions that they call.
 pub mod Entering
-pub mod ForC
 pub mod Checks
 pub mod Reading

@@ -1,4 +1,4 @@
--- What the reader of texts answers and writes, from the answers of the functions that it calls; and the length that it gives is small.
+-- What the reader of texts answers and writes, from the answers of the functions that it calls.
 use mathlib.Core.Path.{◌≡◌, refl, sym, ap, subst, ◌∙◌}
 use mathlib.Core.Bool.{Bool, true, false}
 use mathlib.Core.List.{List}
@@ -89,30 +89,3 @@ module _ (bs : List ℕ) (c : Counts) (ar ss ns : List ℕ) (k : TextKept (read_
     unfolding Reads ReadAs length_outcome text_pack pack_after written may_write
     reads_all h z e =
         rw (k.is, le-leb (length (pack_bytes k.pack.system)) (length o) (omega (arith, counted k.pack)), counted k.pack) (refl, e (may_write h))
-
--- FOR C
-
--- the length that is answered
-pub length_small : (bs : List ℕ) (room n : ℕ) (a : Answer) → ReadAs (text_pack bs room) a → a ≡ Passed n → n ≤ most_pack_bytes
-unfolding ReadAs length_outcome text_pack
-length_small bs room n a says e = go (read_text bs) refl (sym (ap answer_outcome e) ∙ says)
-  where
-    test : (p : System) → length (pack_bytes p) ≤ most_pack_bytes → (b : Bool) → passed n ≡ length_outcome (unless b 14 (passed p)) → n ≤ most_pack_bytes
-    test p g true h = let z : n ≡ length (pack_bytes p) = cc in omega arith
-    test p g false h = absurd (let z : ◌≡◌ {A = ℕ} 0 1 = cc in omega arith)
-
-    go : (o : Outcome System) → read_text bs ≡ o → passed n ≡ length_outcome (after o (λ p. unless (leb (length (pack_bytes p)) room) 14 (passed p))) → n ≤ most_pack_bytes
-    go (refused m) f h = absurd (let z : ◌≡◌ {A = ℕ} 0 1 = cc in omega arith)
-    go (passed p) f h = test p (read_small bs p f) (leb (length (pack_bytes p)) room) h
-
--- a refusal's number and 0
-pub text_number : (o : Outcome System) (a : Answer) (x : Refusal) → ReadAs o a → a ≡ Refused x → (number_of x ≡ refusal o) × (0 ≡ pack_value o)
-unfolding ReadAs length_outcome pack_value
-text_number (refused n) a x says e = let f = sym (ap answer_outcome e) ∙ says in (cc, refl)
-text_number (passed p) a x says e = let f = sym (ap answer_outcome e) ∙ says in absurd (let z : ◌≡◌ {A = ℕ} 0 1 = cc in omega arith)
-
--- 0 and the length
-pub text_length : (o : Outcome System) (a : Answer) (n : ℕ) → ReadAs o a → a ≡ Passed n → (0 ≡ refusal o) × (n ≡ pack_value o)
-unfolding ReadAs length_outcome pack_value
-text_length (refused m) a n says e = let f = sym (ap answer_outcome e) ∙ says in absurd (let z : ◌≡◌ {A = ℕ} 0 1 = cc in omega arith)
-text_length (passed p) a n says e = let f = sym (ap answer_outcome e) ∙ says in (refl, cc)

@@ -1,6 +1,6 @@
+// The loader's four entries: the check, the listing, the arc question and the reader of texts.
 #![tactic(auto)]
-// The loader's four entries: the check, the listing, the arc question and the reader of texts; and the same as C functions.
-mod c;
+
 mod kept;
 
 ghost use Rattle.std.specs.Prelude.{◌≡◌, length};

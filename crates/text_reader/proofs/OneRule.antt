@@ -1,6 +1,5 @@
 -- The rules of a text: what numbering them adds, where they begin and end among the tokens, and what a side and a rule come to.
 use mathlib.Core.Path.{◌≡◌, refl, sym, ◌∙◌}
-use mathlib.Core.Logic.{◌⊎◌, inl, inr}
 use mathlib.Core.Bool.{Bool, true, false, ◌&&◌, cond}
 use mathlib.Core.List.{List, [], ◌∷◌, ◌++◌}
 use Prim.Native.Nat.{ℕ, suc, ◌+◌, ◌<◌}
@@ -201,15 +200,6 @@ module _ (text : List ℕ) (at : ℕ) (table found z ss ar xs ns : List ℕ) (se
         side_told now e h = side_passed rest text ss' ar' xs' ns' next now told.0 _ (rw (numbered_as, e) at h)
 
 -- A RULE
-
--- what is left, once the token was an arrow or was none
-pub not_arrow : {n : ℕ} → (n ≡ 0) ⊎ ((n ≡ 1) ⊎ ((n ≡ 2) ⊎ ((n ≡ 3) ⊎ ((n ≡ 5) ⊎ (n ≡ 6))))) → n ≡ 4 → ⊥
-not_arrow (inl h) e = omega arith
-not_arrow (inr (inl h)) e = omega arith
-not_arrow (inr (inr (inl h))) e = omega arith
-not_arrow (inr (inr (inr (inl h)))) e = omega arith
-not_arrow (inr (inr (inr (inr (inl h))))) e = omega arith
-not_arrow (inr (inr (inr (inr (inr h))))) e = omega arith
 
 -- a side that is over a limit was refused, and one that was read was passed
 module _ (rest : List Token) (text ss ar xs ns : List ℕ) where

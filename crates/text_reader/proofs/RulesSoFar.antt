@@ -1,6 +1,5 @@
 -- The rules of a text read so far and how they are kept: the invariant of `read_rules`, and what each turn of its loop makes of it.
 use mathlib.Core.Path.{◌≡◌, refl, sym, ap, ◌∙◌}
-use mathlib.Core.Logic.{◌⊎◌, inl, inr}
 use mathlib.Core.Bool.{true}
 use mathlib.Core.List.{List, [], ◌∷◌, ◌++◌, map-append, append_assoc, append-nil}
 use Prim.Native.Nat.{ℕ, zero, suc, ◌+◌, ◌*◌, ◌≤◌, ◌<◌}
@@ -87,15 +86,6 @@ module _ (text : List ℕ) (i : ℕ) where
       let b = rule_begins r es in
       let n = no_name (is ∙ b.2) t h in
       absurd (other n.0 n.1 n.2)
-
--- by its number no name
-pub not_named : {n : ℕ} → (n ≡ 1) ⊎ ((n ≡ 2) ⊎ ((n ≡ 3) ⊎ ((n ≡ 4) ⊎ ((n ≡ 5) ⊎ (n ≡ 6))))) → n ≡ 0 → ⊥
-not_named (inl h) e = omega arith
-not_named (inr (inl h)) e = omega arith
-not_named (inr (inr (inl h))) e = omega arith
-not_named (inr (inr (inr (inl h)))) e = omega arith
-not_named (inr (inr (inr (inr (inl h))))) e = omega arith
-not_named (inr (inr (inr (inr (inr h))))) e = omega arith
 
 -- tokens are left
 not_ended : (text : List ℕ) (i : ℕ) (rs : List TextRule) → length text ≤ i → i ≤ length text → tokens_at text i ≡ then_closed rs → ⊥

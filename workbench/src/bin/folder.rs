@@ -88,8 +88,8 @@ fn ways<'a>(script: &'a Path, program: &'a Path, entries: &'a [Entry]) -> Vec<Wa
     let by_script = format!("the script, a process a pack (a sample of {}, scaled)", sample.len());
     let way = |name: &str, run| Way { name: name.to_string(), scale: 1.0, run };
     vec![
-        Way { scale, ..way(&by_script, Calls::of_script(script, &sample).runs()) },
-        way("the program, a process a pack", Calls::of_program(program, &all).runs()),
+        Way { scale, ..way(&by_script, Calls::of_each(script, &sample).runs()) },
+        way("the program, a process a pack", Calls::of_each(program, &all).runs()),
         way("one process", Calls::of_one_process(program, entries).runs()),
         way("  opening", Box::new(|| open_all(entries))),
         way("  opening and reading", Box::new(|| read_all(entries))),
@@ -142,21 +142,16 @@ struct Calls<'a> {
 }
 
 impl<'a> Calls<'a> {
-    /// The status tells the answer too.
-    fn of_script(tool: &'a Path, entries: &[&'a Entry]) -> Calls<'a> {
-        let statuses = entries.iter().map(|entry| i32::from(entry.answer != 0)).collect();
-        Calls { statuses, ..Calls::of_program(tool, entries) }
-    }
-
-    /// A program has no status of its own: it is always 0.
-    fn of_program(tool: &'a Path, entries: &[&'a Entry]) -> Calls<'a> {
+    fn of_each(tool: &'a Path, entries: &[&'a Entry]) -> Calls<'a> {
         let arguments = entries.iter().map(|entry| ["check", &entry.pack_name, &entry.certificate_name]).collect();
+        let statuses = entries.iter().copied().map(status).collect();
         let due = entries.iter().map(|entry| answer(entry)).collect();
-        Calls { tool, arguments, statuses: vec![0; entries.len()], due }
+        Calls { tool, arguments, statuses, due }
     }
 
     fn of_one_process(tool: &'a Path, entries: &'a [Entry]) -> Calls<'a> {
-        Calls { tool, arguments: vec![["check", "--list", LIST]], statuses: vec![0], due: listed(entries) }
+        let greatest = entries.iter().map(status).max().unwrap_or(0);
+        Calls { tool, arguments: vec![["check", "--list", LIST]], statuses: vec![greatest], due: listed(entries) }
     }
 
     fn runs(self) -> Run<'a> {
@@ -185,6 +180,11 @@ impl<'a> Calls<'a> {
         let failed = || Failure::CouldNotRun(format!("{}: {status}", arguments.join(" ")));
         status.code().filter(|code| [0, 1].contains(code)).ok_or_else(failed)
     }
+}
+
+/// The status that tells an entry's answer.
+fn status(entry: &Entry) -> i32 {
+    i32::from(entry.answer != 0)
 }
 
 fn create(name: &str) -> Outcome<File> {

@@ -1,0 +1,2 @@
+-- What the C functions answer, from the answers of the entries.
+mod ForC

@@ -1,0 +1,19 @@
+-- `text_reader::rules::read_rules` meets its contract. The loop's invariant, of RulesSoFar.antt: the rules read so far are kept, and
+-- the tokens left come, after these rules, to what all come to.
+use mathlib.Core.List.{List}
+use Prim.Native.Nat.{◌-◌}
+use lib.ListN.{length}
+use Rattle.texts.specs.Tokens.{Name}
+use Rattle.texts.specs.Spelling.{TextRule}
+use Rattle.text_names.specs.Table.{VariablesKept}
+use Rattle.text_grammar.specs.Grammar.{RulesStand}
+use Rattle.text_reader.proofs.RulesSoFar.{GoesOn, SoFar}
+use Rattle.text_reader.proofs.rules.read_rules.Given as goal
+
+abbrev pub invariant-loop-i : goal.invariant-loop-i
+invariant-loop-i l =
+    GoesOn l.text l.i l.symbols l.arities l.variables l.found l.starts l.nodes l.count l.kept l.rules
+    × ((vs : List Name) (rs : List TextRule) → VariablesKept l.text l.table vs → RulesStand l.text l.at vs rs → SoFar l.text l.i vs rs l.symbols l.arities l.variables l.starts l.nodes l.count l.kept l.rules)
+
+abbrev pub decreases-loop-i : goal.decreases-loop-i
+decreases-loop-i l = length l.text - l.i
