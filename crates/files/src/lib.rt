@@ -24,7 +24,7 @@ const NAME_TOO_LONG: i32 = 36;
 const NO_TEXT: i32 = 84;
 
 // How many bytes stand at the start of the buffer, or why not all could be read.
-#[derive(Drop)]
+#[derive(Clone, Copy)]
 pub enum FileRead {
     Bytes(usize),
     Failed(Error),

@@ -25,7 +25,7 @@ pub enum Taken {
 }
 
 // What was taken, how many bytes of it, and where the window's bytes stand that are still to be taken.
-#[derive(Drop)]
+#[derive(Clone, Copy)]
 pub struct Next {
     pub taken: Taken,
     pub bytes: usize,
@@ -34,7 +34,7 @@ pub struct Next {
 }
 
 // Where bytes stand in the window that are still to be taken: none of them where the list has ended or a read has failed, with its error.
-#[derive(Drop)]
+#[derive(Clone, Copy)]
 struct Window {
     from: usize,
     to: usize,
@@ -163,7 +163,7 @@ fn find_tab(line: &[u8], at: usize) -> usize
 }
 
 // The place of the one tab between two names, or that the line is no two names with a tab between.
-#[derive(Drop)]
+#[derive(Clone, Copy)]
 pub enum Tabs {
     One(usize),
     Other,

@@ -33,11 +33,10 @@ fn after(console: &Console, written: io::Result<()>, answer: Ended) -> Ended {
 
 // The answer's line, then the words for it.
 fn refused(console: &Console, x: Refusal) -> Ended {
-    let words = printing::words::meaning(&x);
     if !printing::finished(console, printing::refused(console, x)) {
         return Ended::Unjudged;
     }
-    let _ = printing::words::tell(console, words);
+    let _ = printing::words::tell(console, x);
     Ended::Against
 }
 

@@ -2,7 +2,7 @@
 use names::Console;
 
 // A number, or another word.
-#[derive(Drop)]
+#[derive(Clone, Copy)]
 pub enum Parsed {
     Number(u32),
     Other,

@@ -1,4 +1,3 @@
 -- What the proofs about names share, and what showing them comes to.
-pub mod Counting
 pub mod Showing
 pub mod Apart

@@ -5,7 +5,7 @@ use std::io;
 use std::io::Eprint;
 
 // What a refusal means, in a line.
-pub fn meaning(x: &Refusal) -> &'static str {
+fn meaning(x: Refusal) -> &'static str {
     match x {
         Refusal::CutFile => "cut file: a length is over its limit or no multiple of 8",
         Refusal::StrayRecord =>
@@ -42,7 +42,7 @@ pub fn meaning(x: &Refusal) -> &'static str {
     }
 }
 
-// Writes the words' line to standard error.
-pub fn tell(console: &Console, words: &str) -> io::Result<()> {
-    console.eprintln(words)
+// Tells on standard error what a refusal means.
+pub fn tell(console: &Console, x: Refusal) -> io::Result<()> {
+    console.eprintln(meaning(x))
 }

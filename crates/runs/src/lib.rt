@@ -27,7 +27,7 @@ const WINDOW_ROOM: usize = 65536;
 const MOST_LINES: u64 = 1000000000000;
 
 // How a run ended: accepted, yes, a listing or a pack; refused or no; or nothing could be judged.
-#[derive(Drop)]
+#[derive(Clone, Copy)]
 pub enum Ended {
     Good,
     Against,
@@ -54,7 +54,7 @@ struct Tally {
 }
 
 // The counts of a run over all its pairs, or that it was broken off since a line could not be written.
-#[derive(Drop)]
+#[derive(Clone, Copy)]
 enum Run {
     Whole(Tally),
     Broken,
