@@ -50,7 +50,7 @@ returns-then-n-count_pairs c =
     λ j.
     let stated = c.requires.keeps.counted in
     let there = c.count_pairs.ensures in
-    sym (eight_counted j (λ e. c.if-n-count_pairs.true (omega (arith, stated, there, e))))
+    sym (eight_counted j (λ e. omega (arith, stated, there, e)))
 
 pub loop-i-init : goal.loop-i-init
 loop-i-init c = (omega arith, start (of_certificate c.args.certificate.now))
