@@ -28,9 +28,12 @@ fn keeps_bytes(found: &Metadata) -> bool {
     found.is_file() || found.file_type().is_block_device()
 }
 
-// Whether what is open at path is a file that another may take the place of. Says so where it is not.
-fn is_regular(console: &Console, file: &File, path: &str) -> bool {
-    match file.metadata() {
+// Whether what is open at path is a file that another may take the place of. Says so where it is not, once it is closed: where
+// standard error is closed, the file has its number.
+fn is_regular(console: &Console, file: File, path: &str) -> bool {
+    let found = file.metadata();
+    drop(file);
+    match found {
         Ok(found) => {
             let regular = keeps_bytes(&found);
             if !regular {
@@ -57,7 +60,7 @@ fn may_replace(console: &Console, path: &str) -> bool {
         .write(true)
         .open(&console.rt, path)
     {
-        Ok(file) => is_regular(console, &file, path),
+        Ok(file) => is_regular(console, file, path),
         Err(error) => {
             if error.kind() == ErrorKind::NotFound {
                 return true;
