@@ -149,43 +149,26 @@ returns-in-Refused c =
 
 pub overflow_cast-nodes : goal.overflow_cast-nodes
 overflow_cast-nodes c =
-    let found : let l = c.loop-j in
-    let a = c.args in
-    wanted_at a.pack.now (8 * (a.from + l.j)) l.last (a.count - l.j) false ≡ Found c.in-Found.r = sym c.read_wanted.ensures ∙ c.in-Found.is in
-    let read : let l = c.loop-j in
-    let a = c.args in
-    let b = c.in-Passed.code in
-    NodeRead a.pack.now a.from a.count a.symbols l.last l.j (3 + b / 64) b = let l = c.loop-j in
-    node_read _ _ _ _ l.last l.j c.loop-j-test.true c.if-n-from.false found l.invariant.1 (omega arith)
+    let l = c.loop-j in
+    let n =
+    node_read _ _ _ _ l.last l.j c.loop-j-test.true c.if-n-from.false (sym c.read_wanted.ensures ∙ c.in-Found.is) l.invariant.1 (omega arith)
     (sym (ap answer_outcome c.in-Passed.is) ∙ c.node_code.ensures) in
-    let n = read in omega (arith, n.byte_is, code_small _ n.node (omega arith) n.small)
+    omega (arith, n.byte_is, code_small _ n.node (omega arith) n.small)
 
 pub overflow_add-last : goal.overflow_add-last
 overflow_add-last c =
-    let found : let l = c.loop-j in
-    let a = c.args in
-    wanted_at a.pack.now (8 * (a.from + l.j)) l.last (a.count - l.j) false ≡ Found c.in-Found.r = sym c.read_wanted.ensures ∙ c.in-Found.is in
-    let read : let l = c.loop-j in
-    let a = c.args in
-    let b = c.in-Passed.code in
-    NodeRead a.pack.now a.from a.count a.symbols l.last l.j (3 + b / 64) b = let l = c.loop-j in
-    node_read _ _ _ _ l.last l.j c.loop-j-test.true c.if-n-from.false found l.invariant.1 (omega arith)
+    let l = c.loop-j in
+    let n =
+    node_read _ _ _ _ l.last l.j c.loop-j-test.true c.if-n-from.false (sym c.read_wanted.ensures ∙ c.in-Found.is) l.invariant.1 (omega arith)
     (sym (ap answer_outcome c.in-Passed.is) ∙ c.node_code.ensures) in
-    let n = read in omega (arith, n.byte_is, code_small _ n.node (omega arith) n.small)
+    omega (arith, n.byte_is, code_small _ n.node (omega arith) n.small)
 
 pub loop-j-preserved : goal.loop-j-preserved
 loop-j-preserved c =
-    let found : let l = c.loop-j in
-    let a = c.args in
-    wanted_at a.pack.now (8 * (a.from + l.j)) l.last (a.count - l.j) false ≡ Found c.in-Found.r = sym c.read_wanted.ensures ∙ c.in-Found.is in
-    let read : let l = c.loop-j in
-    let a = c.args in
-    let b = c.in-Passed.code in
-    NodeRead a.pack.now a.from a.count a.symbols l.last l.j (3 + b / 64) b = let l = c.loop-j in
-    node_read _ _ _ _ l.last l.j c.loop-j-test.true c.if-n-from.false found l.invariant.1 (omega arith)
-    (sym (ap answer_outcome c.in-Passed.is) ∙ c.node_code.ensures) in
     let l = c.loop-j in
-    let n = read in
+    let n =
+    node_read _ _ _ _ l.last l.j c.loop-j-test.true c.if-n-from.false (sym c.read_wanted.ensures ∙ c.in-Found.is) l.invariant.1 (omega arith)
+    (sym (ap answer_outcome c.in-Passed.is) ∙ c.node_code.ensures) in
     let step = more _ _ _ _ _ _ l.nodes l.last l.j l.invariant.2 n (omega arith) in
     (omega arith, n.inside, step)
 

@@ -4,11 +4,12 @@ use mathlib.Core.Path.{◌≡◌, refl, sym, ap, ◌∙◌}
 use mathlib.Core.Logic.{⊎_elim}
 use mathlib.Core.Bool.{Bool, true, false}
 use mathlib.Core.List.{List}
-use Prim.Native.Nat.{ℕ, zero, suc, ◌*◌, ◌/◌, ◌≤◌, ◌<◌}
+use Prim.Native.Nat.{ℕ, zero, suc, ◌*◌, ◌/◌, ◌≤◌}
 use native.Mathlib.Omega.{arith}
 use lib.ListN.{length, take, length-set}
 use lib.Seq.{get_or-set_same}
 use Rattle.rewriting.specs.Terms.{System, rule}
+use Rattle.records.specs.declared.Record.{Record}
 use Rattle.records.specs.declared.Answer.{Answer}
 use Rattle.records.specs.declared.Answer.TheVariants.{Passed}
 use Rattle.records.specs.declared.Wanted.TheVariants.{Found, Stray}
@@ -26,6 +27,10 @@ use Rattle.pack_reader.proofs.rules.read_rules.Goals as goal
 refuses : (o : Outcome System) (ar : List ℕ) (x : Answer) (starts nodes : List ℕ) (n : ℕ) → answer_outcome x ≡ refused n → o ≡ refused n → RulesRead o ar x starts nodes
 unfolding RulesRead
 refuses o ar x starts nodes n e h = rw h e
+
+-- a header that passed tells of its rule what the sums of a turn need
+told : (i : ℕ) (r : Record) (x : Answer) (n : ℕ) → answer_outcome x ≡ rule_header i r → x ≡ Passed n → HeaderTold i r
+told i r x n e p = header_told _ _ _ (sym e ∙ ap answer_outcome p)
 
 -- no record is left
 module _ (pack arities : List ℕ) (symbols : ℕ) (fits : symbols ≤ length arities) (starts nodes : List ℕ) (last at base i : ℕ)
@@ -84,10 +89,7 @@ returns-in-Refused c =
 
 pub read_rule-requires : goal.read_rule-requires
 read_rule-requires c =
-    let head : rule_header c.loop-at.i c.in-Found.r
-    ≡ passed c.in-Passed.field-0 = sym c.header.ensures ∙ ap answer_outcome c.in-Passed.is in
-    let told : HeaderTold c.loop-at.i c.in-Found.r = header_told _ _ _ head in
-    let f = told in omega arith
+    let f = told _ _ _ _ c.header.ensures c.in-Passed.is in omega arith
 
 pub returns-in-Refused-read_rule : goal.returns-in-Refused-read_rule
 returns-in-Refused-read_rule c =
@@ -103,86 +105,39 @@ returns-in-Refused-read_rule c =
 
 pub overflow_add-end : goal.overflow_add-end
 overflow_add-end c =
-    let head : rule_header c.loop-at.i c.in-Found.r
-    ≡ passed c.in-Passed.field-0 = sym c.header.ensures ∙ ap answer_outcome c.in-Passed.is in
-    let told : HeaderTold c.loop-at.i c.in-Found.r = header_told _ _ _ head in
-    let f = told in omega arith
+    let f = told _ _ _ _ c.header.ensures c.in-Passed.is in omega arith
 
 pub overflow_add-end-in-Passed-read_rule : goal.overflow_add-end-in-Passed-read_rule
 overflow_add-end-in-Passed-read_rule c =
-    let head : rule_header c.loop-at.i c.in-Found.r
-    ≡ passed c.in-Passed.field-0 = sym c.header.ensures ∙ ap answer_outcome c.in-Passed.is in
-    let told : HeaderTold c.loop-at.i c.in-Found.r = header_told _ _ _ head in
-    let f = told in omega arith
+    let f = told _ _ _ _ c.header.ensures c.in-Passed.is in omega arith
 
 pub overflow_add-base : goal.overflow_add-base
 overflow_add-base c =
-    let head : rule_header c.loop-at.i c.in-Found.r
-    ≡ passed c.in-Passed.field-0 = sym c.header.ensures ∙ ap answer_outcome c.in-Passed.is in
-    let told : HeaderTold c.loop-at.i c.in-Found.r = header_told _ _ _ head in
-    let f = told in omega arith
+    let f = told _ _ _ _ c.header.ensures c.in-Passed.is in omega arith
 
 pub keep_ends-requires : goal.keep_ends-requires
 keep_ends-requires c =
-    let head : rule_header c.loop-at.i c.in-Found.r
-    ≡ passed c.in-Passed.field-0 = sym c.header.ensures ∙ ap answer_outcome c.in-Passed.is in
-    let told : HeaderTold c.loop-at.i c.in-Found.r = header_told _ _ _ head in
-    let f = told in record { room = omega arith; middle_small = omega arith; end_small = omega arith }
+    let f = told _ _ _ _ c.header.ensures c.in-Passed.is in record { room = omega arith; middle_small = omega arith; end_small = omega arith }
 
 pub overflow_add-at-in-Passed-read_rule : goal.overflow_add-at-in-Passed-read_rule
 overflow_add-at-in-Passed-read_rule c =
-    let head : rule_header c.loop-at.i c.in-Found.r
-    ≡ passed c.in-Passed.field-0 = sym c.header.ensures ∙ ap answer_outcome c.in-Passed.is in
-    let told : HeaderTold c.loop-at.i c.in-Found.r = header_told _ _ _ head in
-    let turn : let l = c.loop-at in
-    (l.i < 64) × (l.at < 4224) × (c.in-Found.r.b ≤ 32) × (c.in-Found.r.c ≤ 32) = let f = told in
-    let asked = c.requires in
-    (f.few, omega (arith, c.loop-at-test.true, asked.file), f.left_few, f.right_few) in
-    let t = turn in omega arith
+    let f = told _ _ _ _ c.header.ensures c.in-Passed.is in omega (arith, c.loop-at-test.true, c.requires.file)
 
 pub overflow_add-at-in-Passed-read_rule-2 : goal.overflow_add-at-in-Passed-read_rule-2
 overflow_add-at-in-Passed-read_rule-2 c =
-    let head : rule_header c.loop-at.i c.in-Found.r
-    ≡ passed c.in-Passed.field-0 = sym c.header.ensures ∙ ap answer_outcome c.in-Passed.is in
-    let told : HeaderTold c.loop-at.i c.in-Found.r = header_told _ _ _ head in
-    let turn : let l = c.loop-at in
-    (l.i < 64) × (l.at < 4224) × (c.in-Found.r.b ≤ 32) × (c.in-Found.r.c ≤ 32) = let f = told in
-    let asked = c.requires in
-    (f.few, omega (arith, c.loop-at-test.true, asked.file), f.left_few, f.right_few) in
-    let t = turn in omega arith
+    let f = told _ _ _ _ c.header.ensures c.in-Passed.is in omega (arith, c.loop-at-test.true, c.requires.file)
 
 pub overflow_add-at-in-Passed-read_rule-3 : goal.overflow_add-at-in-Passed-read_rule-3
 overflow_add-at-in-Passed-read_rule-3 c =
-    let head : rule_header c.loop-at.i c.in-Found.r
-    ≡ passed c.in-Passed.field-0 = sym c.header.ensures ∙ ap answer_outcome c.in-Passed.is in
-    let told : HeaderTold c.loop-at.i c.in-Found.r = header_told _ _ _ head in
-    let turn : let l = c.loop-at in
-    (l.i < 64) × (l.at < 4224) × (c.in-Found.r.b ≤ 32) × (c.in-Found.r.c ≤ 32) = let f = told in
-    let asked = c.requires in
-    (f.few, omega (arith, c.loop-at-test.true, asked.file), f.left_few, f.right_few) in
-    let t = turn in omega arith
+    let f = told _ _ _ _ c.header.ensures c.in-Passed.is in omega (arith, c.loop-at-test.true, c.requires.file)
 
 pub overflow_add-i : goal.overflow_add-i
 overflow_add-i c =
-    let head : rule_header c.loop-at.i c.in-Found.r
-    ≡ passed c.in-Passed.field-0 = sym c.header.ensures ∙ ap answer_outcome c.in-Passed.is in
-    let told : HeaderTold c.loop-at.i c.in-Found.r = header_told _ _ _ head in
-    let turn : let l = c.loop-at in
-    (l.i < 64) × (l.at < 4224) × (c.in-Found.r.b ≤ 32) × (c.in-Found.r.c ≤ 32) = let f = told in
-    let asked = c.requires in
-    (f.few, omega (arith, c.loop-at-test.true, asked.file), f.left_few, f.right_few) in
-    let t = turn in omega arith
+    let f = told _ _ _ _ c.header.ensures c.in-Passed.is in omega (arith, c.loop-at-test.true, c.requires.file)
 
 pub loop-at-smaller : goal.loop-at-smaller
 loop-at-smaller c =
-    let head : rule_header c.loop-at.i c.in-Found.r
-    ≡ passed c.in-Passed.field-0 = sym c.header.ensures ∙ ap answer_outcome c.in-Passed.is in
-    let told : HeaderTold c.loop-at.i c.in-Found.r = header_told _ _ _ head in
-    let turn : let l = c.loop-at in
-    (l.i < 64) × (l.at < 4224) × (c.in-Found.r.b ≤ 32) × (c.in-Found.r.c ≤ 32) = let f = told in
-    let asked = c.requires in
-    (f.few, omega (arith, c.loop-at-test.true, asked.file), f.left_few, f.right_few) in
-    let t = turn in omega arith
+    let f = told _ _ _ _ c.header.ensures c.in-Passed.is in omega (arith, c.loop-at-test.true, c.requires.file)
 
 pub loop-at-preserved : goal.loop-at-preserved
 loop-at-preserved c =
@@ -190,10 +145,9 @@ loop-at-preserved c =
     wanted_at c.args.pack.now (8 * l.at) l.last 0 false ≡ Found c.in-Found.r = sym c.read_wanted.ensures ∙ c.in-Found.is in
     let head : rule_header c.loop-at.i c.in-Found.r
     ≡ passed c.in-Passed.field-0 = sym c.header.ensures ∙ ap answer_outcome c.in-Passed.is in
-    let told : HeaderTold c.loop-at.i c.in-Found.r = header_told _ _ _ head in
     let l = c.loop-at in
     let asked = c.requires in
-    let f = told in
+    let f = header_told _ _ _ head in
     let i = l.invariant in (
       omega arith,
       omega arith,

@@ -55,42 +55,16 @@ returns-then-nodes-left-ge-FIRST_VARIABLE c =
 
 pub returns-then-r : goal.returns-then-r
 returns-then-r c =
-    let judged : let a = c.args in
-    cond c.right_side-r.result.closed (passed 0) (refused 6)
-    ≡ rule_judged a.arities.now (part a.nodes.now a.left a.right) (part a.nodes.now a.right a.end) = let s = c.left_side in
-    let one = c.if-not-left_side.false in
-    let other = not-false _ c.if-not-r.false in
-    let asked = c.requires in
-    by_variables _ _ _ _ _
-    (sym s.ensures.told ∙ one)
-    (sym c.right_side-r.ensures.told ∙ other)
-    asked.left_some
-    (omega (arith, asked.ordered, asked.within))
-    c.if-nodes-left-ge-FIRST_VARIABLE.false
-    _
-    _
-    (c.right_side-r.ensures.all_told other)
-    s.ensures.long
-    (s.ensures.variables one) in
-    rw c.if-r.true at judged
+    let left = c.if-not-left_side.false in
+    let right = not-false _ c.if-not-r.false in
+    rw c.if-r.true at
+    (by_variables _ _ _ _ _ (sym c.left_side.ensures.told ∙ left) (sym c.right_side-r.ensures.told ∙ right) (omega arith) (omega arith)
+    c.if-nodes-left-ge-FIRST_VARIABLE.false _ _ (c.right_side-r.ensures.all_told right) c.left_side.ensures.long (c.left_side.ensures.variables left))
 
 pub returns : goal.returns
 returns c =
-    let judged : let a = c.args in
-    cond c.right_side-r.result.closed (passed 0) (refused 6)
-    ≡ rule_judged a.arities.now (part a.nodes.now a.left a.right) (part a.nodes.now a.right a.end) = let s = c.left_side in
-    let one = c.if-not-left_side.false in
-    let other = not-false _ c.if-not-r.false in
-    let asked = c.requires in
-    by_variables _ _ _ _ _
-    (sym s.ensures.told ∙ one)
-    (sym c.right_side-r.ensures.told ∙ other)
-    asked.left_some
-    (omega (arith, asked.ordered, asked.within))
-    c.if-nodes-left-ge-FIRST_VARIABLE.false
-    _
-    _
-    (c.right_side-r.ensures.all_told other)
-    s.ensures.long
-    (s.ensures.variables one) in
-    rw c.if-r.false at judged
+    let left = c.if-not-left_side.false in
+    let right = not-false _ c.if-not-r.false in
+    rw c.if-r.false at
+    (by_variables _ _ _ _ _ (sym c.left_side.ensures.told ∙ left) (sym c.right_side-r.ensures.told ∙ right) (omega arith) (omega arith)
+    c.if-nodes-left-ge-FIRST_VARIABLE.false _ _ (c.right_side-r.ensures.all_told right) c.left_side.ensures.long (c.left_side.ensures.variables left))
