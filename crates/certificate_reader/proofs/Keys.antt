@@ -1,5 +1,5 @@
 -- Keys: one number in the place of two tells what stands below what, as long as the second numbers are below 65536.
-use mathlib.Core.Path.{◌≡◌, refl, sym, ◌∙◌}
+use mathlib.Core.Path.{◌≡◌, refl, sym, ap, ◌∙◌}
 use mathlib.Core.List.{List, [], ◌∷◌, ◌++◌}
 use Prim.Native.Nat.{ℕ, ◌<◌}
 use native.Mathlib.Omega.{arith}
@@ -41,3 +41,8 @@ module _ {A : Type 0} (f g : A → ℕ) where
   pub tells_more : (xs : List A) (x : A) → g x < 65536 → Tells f g (xs ++ (x ∷ [])) (key (f x) (g x))
   unfolding Tells
   tells_more xs x small a b small_next = last_below_more xs x a b ∙ key_rises (f x) (g x) a b small small_next
+
+  -- the comparison with the last of a list, by the key that the code found
+  pub by_key : (xs : List A) (last a b k : ℕ) → Tells f g xs last → b < 65536 → k ≡ key a b → last_below f g xs a b ≡ ltb last k
+  unfolding Tells
+  by_key xs last a b k t small e = t a b small ∙ ap (ltb last) (sym e)

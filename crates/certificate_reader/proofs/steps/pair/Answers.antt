@@ -1,13 +1,11 @@
 -- `certificate_reader::steps::pair` meets its contract: its tests are those of a P record, in their order.
 use mathlib.Core.Path.{◌≡◌, refl, sym, ap, ◌∙◌}
 use mathlib.Core.Bool.{Bool, true, false, ◌&&◌, cond}
-use mathlib.Core.Option.{some}
 use Prim.Native.Nat.{ℕ, ◌<◌}
 use native.Mathlib.Omega.{arith}
 use borrow.Author.Tests.{eq-eqb, ne_eqb, lt-ltb, le-ltb}
-use lib.Dec.{ltb, eqb}
+use lib.Dec.{eqb}
 use Rattle.rewriting.specs.Pairs.{is_pair}
-use Rattle.records.specs.declared.Record.{Record}
 use Rattle.records.specs.declared.Refusal.{Refusal}
 use Rattle.records.specs.declared.Refusal.TheVariants.{StrayRecord}
 use Rattle.records.specs.declared.Answer.{Answer}
@@ -15,14 +13,12 @@ use Rattle.records.specs.declared.Answer.TheVariants.{Passed, Refused}
 use Rattle.records.specs.Answers.{number_of, answer_outcome}
 use Rattle.records.specs.Outcomes.{Outcome, refused, passed}
 use Rattle.records.specs.Order.{index}
-use Rattle.records.specs.Rising.{last_below}
 use Rattle.records.proofs.Outcomes.{not_passed}
 use Rattle.pairs.specs.Listing.{a_pair}
 use Rattle.pair_finder.specs.Walking.{PlaceAnswer}
-use Rattle.certificate_reader.specs.declared.State.{State}
-use Rattle.certificates.specs.Components.{Component}
-use Rattle.certificates.specs.CertificateReading.{CertificateReading, pair_read}
-use Rattle.certificate_reader.specs.Working.{Tells, Mirrors}
+use Rattle.certificates.specs.CertificateReading.{pair_read}
+use Rattle.certificate_reader.specs.Working.{Tells}
+use Rattle.certificate_reader.proofs.Keys.{by_key}
 use Rattle.certificate_reader.proofs.Mirrored.{no_state, after_pair, stops, stops_with, answers, pairs_told, pair_mirrored}
 use Rattle.certificate_reader.proofs.steps.pair.Goals as goal
 
@@ -58,46 +54,34 @@ returns-then-r-ne0-2 c =
 pub returns-then-k-s : goal.returns-then-k-s
 unfolding pair_read Tells
 returns-then-k-s c =
-    let r : Record = c.args.r in
-    let s : State = c.args.s in
-    let zeros : eqb r.one 0 && eqb r.c 0 ≡ true = rw (eq-eqb _ _ c.if-r-ne0.false, eq-eqb _ _ c.if-r-ne0-2.false) in
-    let small : r.b < 65536 = omega arith in
-    let key_told : (x : CertificateReading) (d : Component) → x.begun ≡ some d → Mirrors s x →
-    last_below (λ q. q.at_rule) (λ q. q.place) d.pairs r.a r.b ≡ ltb s.pair_key c.key-k.result = (λ x d is m. pairs_told s x d is m r.a r.b small ∙ ap (ltb s.pair_key) (sym c.key-k.ensures.is)) in
+    let zeros : eqb c.args.r.one 0 && eqb c.args.r.c 0 ≡ true = rw (eq-eqb _ _ c.if-r-ne0.false, eq-eqb _ _ c.if-r-ne0-2.false) in
+    let small : c.args.r.b < 65536 = omega arith in
     record {
       on = no_state _ StrayRecord;
-      means = λ p symbols arities x d stored m is kind. rw (zeros, key_told x d is m, le-ltb _ _ c.if-k-s.true) (stops StrayRecord);
+      means = λ p symbols arities x d stored m is kind. rw (zeros, by_key _ _ _ _ _ _ _ (pairs_told _ x d is m) small c.key-k.ensures.is, le-ltb _ _ c.if-k-s.true) (stops StrayRecord);
     }
 
 pub returns-in-Refused : goal.returns-in-Refused
 unfolding pair_read PlaceAnswer Tells
 returns-in-Refused c =
-    let r : Record = c.args.r in
-    let s : State = c.args.s in
-    let zeros : eqb r.one 0 && eqb r.c 0 ≡ true = rw (eq-eqb _ _ c.if-r-ne0.false, eq-eqb _ _ c.if-r-ne0-2.false) in
-    let small : r.b < 65536 = omega arith in
-    let key_told : (x : CertificateReading) (d : Component) → x.begun ≡ some d → Mirrors s x →
-    last_below (λ q. q.at_rule) (λ q. q.place) d.pairs r.a r.b ≡ ltb s.pair_key c.key-k.result = (λ x d is m. pairs_told s x d is m r.a r.b small ∙ ap (ltb s.pair_key) (sym c.key-k.ensures.is)) in
+    let zeros : eqb c.args.r.one 0 && eqb c.args.r.c 0 ≡ true = rw (eq-eqb _ _ c.if-r-ne0.false, eq-eqb _ _ c.if-r-ne0-2.false) in
+    let small : c.args.r.b < 65536 = omega arith in
     record {
       on = no_state _ _;
       means = λ p symbols arities x d stored m is kind.
-          let none : (is_pair p (a_pair r.a r.b) ≡ false) × _ = not_named _ _ _ (c.place_of.ensures p symbols arities stored) _ c.in-Refused.is in
-          rw (zeros, key_told x d is m, lt-ltb _ _ c.if-k-s.false, none.0) (stops_with 7 _ none.1);
+          let none : (is_pair p (a_pair c.args.r.a c.args.r.b) ≡ false) × _ = not_named _ _ _ (c.place_of.ensures p symbols arities stored) _ c.in-Refused.is in
+          rw (zeros, by_key _ _ _ _ _ _ _ (pairs_told _ x d is m) small c.key-k.ensures.is, lt-ltb _ _ c.if-k-s.false, none.0) (stops_with 7 _ none.1);
     }
 
 pub returns-in-Passed : goal.returns-in-Passed
 unfolding pair_read PlaceAnswer index Tells
 returns-in-Passed c =
-    let r : Record = c.args.r in
-    let s : State = c.args.s in
-    let zeros : eqb r.one 0 && eqb r.c 0 ≡ true = rw (eq-eqb _ _ c.if-r-ne0.false, eq-eqb _ _ c.if-r-ne0-2.false) in
-    let small : r.b < 65536 = omega arith in
-    let key_told : (x : CertificateReading) (d : Component) → x.begun ≡ some d → Mirrors s x →
-    last_below (λ q. q.at_rule) (λ q. q.place) d.pairs r.a r.b ≡ ltb s.pair_key c.key-k.result = (λ x d is m. pairs_told s x d is m r.a r.b small ∙ ap (ltb s.pair_key) (sym c.key-k.ensures.is)) in
+    let zeros : eqb c.args.r.one 0 && eqb c.args.r.c 0 ≡ true = rw (eq-eqb _ _ c.if-r-ne0.false, eq-eqb _ _ c.if-r-ne0-2.false) in
+    let small : c.args.r.b < 65536 = omega arith in
     record {
       on = after_pair _ _ refl refl refl;
       means = λ p symbols arities x d stored m is kind.
-          let one : is_pair p (a_pair r.a r.b) ≡ true = named _ _ _ (c.place_of.ensures p symbols arities stored) _ c.in-Passed.is in
-          rw (zeros, key_told x d is m, lt-ltb _ _ c.if-k-s.false, one, kind)
+          let one : is_pair p (a_pair c.args.r.a c.args.r.b) ≡ true = named _ _ _ (c.place_of.ensures p symbols arities stored) _ c.in-Passed.is in
+          rw (zeros, by_key _ _ _ _ _ _ _ (pairs_told _ x d is m) small c.key-k.ensures.is, lt-ltb _ _ c.if-k-s.false, one, kind)
           (answers _ _ (pair_mirrored _ x d is m _ _ _ c.key-k.ensures.is small));
     }
