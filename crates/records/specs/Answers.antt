@@ -1,5 +1,5 @@
 -- The numbers of document 01's table, and 15 to 24 of document 02; what the code's answers say.
-use Rattle.std.specs.Prelude.{ℕ}
+use Rattle.std.specs.Prelude.{ℕ, Result, Ok, Err}
 use Rattle.records.specs.declared.Refusal.{Refusal}
 use Rattle.records.specs.declared.Refusal.TheVariants.{CutFile, StrayRecord, OutOfRange, BrokenSide, BareLeft, LooseVariable, NoSuchPair, PairCount, BackArc, SelfArc, Heavy, RuleRises, PairStays, ShortList, BadText, TextLimits, NoneLeaves, LostArgument, RuleStays, Full, WrongContinuation, EndsDiffer, SideSpent, NoSuchRule}
 use Rattle.records.specs.declared.Answer.{Answer}
@@ -35,3 +35,8 @@ number_of NoSuchRule = 24
 abbrev pub answer_outcome : Answer → Outcome ℕ
 answer_outcome (Passed n) = passed n
 answer_outcome (Refused x) = refused (number_of x)
+
+-- what the code answers: a value, or a refusal by its number
+abbrev pub outcome_of : {A : Type 0} → Result A Refusal → Outcome A
+outcome_of (Ok x) = passed x
+outcome_of (Err x) = refused (number_of x)
