@@ -10,7 +10,7 @@ ghost use Rattle.certificates.specs.CertificateReading.{CertificateReading, cert
 ghost use Rattle.certificate_reader.specs.Working.{Mirrors, StepsAs, KeyIs, SteppedAs, PairAsked, PlaceAsked, MarkedPlaceAsked, WeightAsked, MarkedAsked, WeightingAsked, StepAsked};
 
 use crate::{State, Stepped};
-use records::{Answer, Record, Refusal};
+use records::{Record, Refusal};
 use terms::{Marked, Symbol};
 
 // The limits of documents 01 and 02 on a component's pairs and weightings, as wide as the fields that hold them.
@@ -93,8 +93,8 @@ fn pair(r: Record, s: State, rules: usize, starts: &[u16], nodes: &[u8], defined
         return Stepped::Refused(Refusal::StrayRecord);
     }
     match pair_finder::arcs::place_of(starts, nodes, defined, rules, r.a as usize, r.b as usize) {
-        Answer::Refused(x) => Stepped::Refused(x),
-        Answer::Passed(_) => Stepped::On(State {
+        Err(x) => Stepped::Refused(x),
+        Ok(_) => Stepped::On(State {
             last: records::order::PAIR,
             number: s.number,
             due: s.due - 1,

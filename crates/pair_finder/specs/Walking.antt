@@ -1,11 +1,11 @@
 -- How the code lists pairs and walks two terms, over a pack as it is kept. The contracts between our own functions speak of
 -- it; no promise to a user does.
-use Rattle.std.specs.Prelude.{◌≡◌, Bool, true, false, ◌&&◌, ◌||◌, not, cond, List, [], ◌∷◌, ◌++◌, map, ℕ, zero, suc, ◌+◌, ◌*◌, ◌≤◌, ◌<◌, ltb, leb, eqb, length, get_or, take, drop}
+use Rattle.std.specs.Prelude.{◌≡◌, Bool, true, false, ◌&&◌, ◌||◌, not, cond, List, [], ◌∷◌, ◌++◌, map, ℕ, zero, suc, ◌+◌, ◌*◌, ◌≤◌, ◌<◌, ltb, leb, eqb, length, get_or, take, drop, Result}
 use Rattle.rewriting.specs.Terms.{Tree, System, is_list, is_term, well, width}
 use Rattle.rewriting.specs.Pairs.{Pair, is_pair, defined}
-use Rattle.records.specs.declared.Answer.{Answer}
+use Rattle.records.specs.declared.Refusal.{Refusal}
 use Rattle.records.specs.Outcomes.{refused, passed}
-use Rattle.records.specs.Answers.{answer_outcome}
+use Rattle.records.specs.Answers.{outcome_of}
 use Rattle.terms.specs.Sides.{flat}
 use Rattle.terms.specs.Kept.{Kept, part, nodes_room, starts_room, symbols_room, TermAt}
 use Rattle.pack_reader.specs.Stored.{Stored}
@@ -152,9 +152,9 @@ pub record ArcReached (arities starts nodes flags : List ℕ) (right end other :
   pub reached : reach_arc ended.asked.kept.system ended.asked.pair (a_pair other 0) ≡ true
 
 -- what `place_of` answers: the place among the nodes of a pair's right side, or 7
-unfoldable pub PlaceAnswer : System → (starts : List ℕ) → (at_rule place : ℕ) → Answer → Type 0
+unfoldable pub PlaceAnswer : System → (starts : List ℕ) → (at_rule place : ℕ) → Result ℕ Refusal → Type 0
 PlaceAnswer p ss i k x =
-    answer_outcome x ≡ cond (is_pair p (a_pair i k)) (passed (get_or ss (2 * i + 1) 0 + k)) (refused 7)
+    outcome_of x ≡ cond (is_pair p (a_pair i k)) (passed (get_or ss (2 * i + 1) 0 + k)) (refused 7)
 
 -- what `write_in` answers and leaves: the records of `qs` from byte `at` on, all else untouched
 pub record Written (at : ℕ) (qs : List Pair) (r : ℕ) (before now : List ℕ) : Type 0 where

@@ -7,7 +7,7 @@ ghost use Rattle.pairs.specs.Listing.{a_pair};
 ghost use Rattle.pairs.specs.Arcs.{may_meet, compatible, a_meeting, meetings, agrees, all_agree, arc, reach_arc};
 ghost use Rattle.pair_finder.specs.Walking.{is_open, jumps, enters, Walkable, TwoTerms, Reaching, NextMeeting, MeetingAt, Laid, ArcAsked, ArcToAsked, ArcReached, PlaceAnswer};
 
-use records::{Answer, Refusal};
+use records::Refusal;
 use terms::FIRST_VARIABLE;
 
 // A node at which the first term of a walk is open: a variable, or a defined symbol.
@@ -300,20 +300,20 @@ pub fn place_of(
     rules: usize,
     rule: usize,
     place: usize,
-) -> Answer
+) -> Result<usize, Refusal>
     requires { Laid starts.now nodes.now rules × (length defined.now ≡ symbols_room) }
     ensures { (p : System) (symbols : ℕ) (arities : List ℕ) → Stored p symbols rules arities starts.now nodes.now defined.now → PlaceAnswer p starts.now rule place result }
 {
     if rules <= rule {
-        return Answer::Refused(Refusal::NoSuchPair);
+        return Err(Refusal::NoSuchPair);
     }
     let from = starts[2 * rule + 1] as usize;
     let to = starts[2 * rule + 2] as usize;
     if to - from <= place {
-        return Answer::Refused(Refusal::NoSuchPair);
+        return Err(Refusal::NoSuchPair);
     }
     if crate::listing::is_defined(defined, nodes[from + place]) {
-        return Answer::Passed(from + place);
+        return Ok(from + place);
     }
-    Answer::Refused(Refusal::NoSuchPair)
+    Err(Refusal::NoSuchPair)
 }

@@ -14,7 +14,7 @@ use Rattle.records.specs.declared.Refusal.TheVariants.{ShortList}
 use Rattle.records.specs.declared.Answer.{Answer}
 use Rattle.records.specs.declared.Answer.TheVariants.{Passed, Refused}
 use Rattle.records.specs.Outcomes.{Outcome, refused, passed}
-use Rattle.records.specs.Answers.{number_of, answer_outcome}
+use Rattle.records.specs.Answers.{number_of, answer_outcome, outcome_of}
 use Rattle.pack_reader.specs.declared.Counts.{Counts}
 use Rattle.pack_reader.specs.declared.PackRead.{PackRead}
 use Rattle.pack_reader.specs.declared.PackRead.TheVariants.{Read, Refused as PackRefused}
@@ -113,14 +113,14 @@ found : (b : Bool) (n m : ℕ) → passed m ≡ cond b (passed n) (refused 7) �
 found true n m h = (refl, cc)
 found false n m h = absurd (let z : ◌≡◌ {A = ℕ} 0 1 = cc in omega arith)
 
-module _ (p : System) (ss : List ℕ) (i k : ℕ) (a : Answer) (says : PlaceAnswer p ss i k a) where
-  pub no_pair : (x : Refusal) → a ≡ Refused x → (is_pair p (a_pair i k) ≡ false) × (number_of x ≡ 7)
+module _ (p : System) (ss : List ℕ) (i k : ℕ) (a : Result ℕ Refusal) (says : PlaceAnswer p ss i k a) where
+  pub no_pair : (x : Refusal) → a ≡ Err x → (is_pair p (a_pair i k) ≡ false) × (number_of x ≡ 7)
   unfolding PlaceAnswer
-  no_pair x e = not_found _ _ x (sym (ap answer_outcome e) ∙ says)
+  no_pair x e = not_found _ _ x (sym (ap outcome_of e) ∙ says)
 
-  pub pair_at : (m : ℕ) → a ≡ Passed m → (is_pair p (a_pair i k) ≡ true) × (m ≡ get_or ss (2 * i + 1) 0 + k)
+  pub pair_at : (m : ℕ) → a ≡ Ok m → (is_pair p (a_pair i k) ≡ true) × (m ≡ get_or ss (2 * i + 1) 0 + k)
   unfolding PlaceAnswer
-  pair_at m e = found _ _ m (sym (ap answer_outcome e) ∙ says)
+  pair_at m e = found _ _ m (sym (ap outcome_of e) ∙ says)
 
 -- a pair is one of a rule that there is
 pair_rule : (p : System) (q : Pair) → is_pair p q ≡ true → q.at_rule < length p.rules

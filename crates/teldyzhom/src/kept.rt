@@ -74,8 +74,8 @@ pub fn arc_kept(
     ensures { (k : SystemKept rules arities.now starts.now nodes.now defined.now) (bs : List ℕ) → read_pack bs ≡ passed k.system → ArcAs (arc_question bs (a_pair rule place) (a_pair other_rule other_place)) result }
 {
     match pair_finder::arcs::place_of(starts, nodes, defined, rules, rule, place) {
-        Answer::Refused(x) => ArcAnswer::Refused(x),
-        Answer::Passed(right) => {
+        Err(x) => ArcAnswer::Refused(x),
+        Ok(right) => {
             match pair_finder::arcs::place_of(
                 starts,
                 nodes,
@@ -84,8 +84,8 @@ pub fn arc_kept(
                 other_rule,
                 other_place,
             ) {
-                Answer::Refused(x) => ArcAnswer::Refused(x),
-                Answer::Passed(_) => {
+                Err(x) => ArcAnswer::Refused(x),
+                Ok(_) => {
                     // Not `arc_from`, which is the check's alone (DECISIONS 89).
                     let end = terms::skip(arities, nodes, right);
                     said(pair_finder::arcs::arc_to(

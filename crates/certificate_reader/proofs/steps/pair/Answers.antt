@@ -5,12 +5,11 @@ use Prim.Native.Nat.{ℕ, ◌<◌}
 use native.Mathlib.Omega.{arith}
 use borrow.Author.Tests.{eq-eqb, ne_eqb, lt-ltb, le-ltb}
 use lib.Dec.{eqb}
+use Rattle.std.specs.Prelude.{Result, Ok, Err}
 use Rattle.rewriting.specs.Pairs.{is_pair}
 use Rattle.records.specs.declared.Refusal.{Refusal}
 use Rattle.records.specs.declared.Refusal.TheVariants.{StrayRecord}
-use Rattle.records.specs.declared.Answer.{Answer}
-use Rattle.records.specs.declared.Answer.TheVariants.{Passed, Refused}
-use Rattle.records.specs.Answers.{number_of, answer_outcome}
+use Rattle.records.specs.Answers.{number_of, outcome_of}
 use Rattle.records.specs.Outcomes.{Outcome, refused, passed}
 use Rattle.records.specs.Order.{index}
 use Rattle.records.proofs.Outcomes.{not_passed}
@@ -23,20 +22,20 @@ use Rattle.certificate_reader.proofs.Mirrored.{no_state, after_pair, stops, stop
 use Rattle.certificate_reader.proofs.steps.pair.Goals as goal
 
 -- what the answer on the pair's place tells of the pair
-module _ (is : Bool) (n : ℕ) (a : Answer) (e : answer_outcome a ≡ cond is (passed n) (refused 7)) where
-  not_named : (y : Refusal) → a ≡ Refused y → (is ≡ false) × (number_of y ≡ 7)
+module _ (is : Bool) (n : ℕ) (a : Result ℕ Refusal) (e : outcome_of a ≡ cond is (passed n) (refused 7)) where
+  not_named : (y : Refusal) → a ≡ Err y → (is ≡ false) × (number_of y ≡ 7)
   not_named y h = go is e
     where
-      go : (b : Bool) → answer_outcome a ≡ cond b (passed n) (refused 7) → (b ≡ false) × (number_of y ≡ 7)
-      go true k = not_passed (sym (ap answer_outcome h) ∙ k)
-      go false k = (refl, let same : ◌≡◌ {A = Outcome ℕ} (refused (number_of y)) (refused 7) = sym (ap answer_outcome h) ∙ k in cc)
+      go : (b : Bool) → outcome_of a ≡ cond b (passed n) (refused 7) → (b ≡ false) × (number_of y ≡ 7)
+      go true k = not_passed (sym (ap outcome_of h) ∙ k)
+      go false k = (refl, let same : ◌≡◌ {A = Outcome ℕ} (refused (number_of y)) (refused 7) = sym (ap outcome_of h) ∙ k in cc)
 
-  named : (k : ℕ) → a ≡ Passed k → is ≡ true
+  named : (k : ℕ) → a ≡ Ok k → is ≡ true
   named k h = go is e
     where
-      go : (b : Bool) → answer_outcome a ≡ cond b (passed n) (refused 7) → b ≡ true
+      go : (b : Bool) → outcome_of a ≡ cond b (passed n) (refused 7) → b ≡ true
       go true _ = refl
-      go false l = not_passed (sym l ∙ ap answer_outcome h)
+      go false l = not_passed (sym l ∙ ap outcome_of h)
 
 pub returns-then-r-ne0 : goal.returns-then-r-ne0
 unfolding pair_read
@@ -61,27 +60,27 @@ returns-then-k-s c =
       means = λ p symbols arities x d stored m is kind. rw (zeros, by_key _ _ _ _ _ _ _ (pairs_told _ x d is m) small c.key-k.ensures.is, le-ltb _ _ c.if-k-s.true) (stops StrayRecord);
     }
 
-pub returns-in-Refused : goal.returns-in-Refused
+pub returns-in-Err : goal.returns-in-Err
 unfolding pair_read PlaceAnswer Tells
-returns-in-Refused c =
+returns-in-Err c =
     let zeros : eqb c.args.r.one 0 && eqb c.args.r.c 0 ≡ true = rw (eq-eqb _ _ c.if-r-ne0.false, eq-eqb _ _ c.if-r-ne0-2.false) in
     let small : c.args.r.b < 65536 = omega arith in
     record {
       on = no_state _ _;
       means = λ p symbols arities x d stored m is kind.
-          let none : (is_pair p (a_pair c.args.r.a c.args.r.b) ≡ false) × _ = not_named _ _ _ (c.place_of.ensures p symbols arities stored) _ c.in-Refused.is in
+          let none : (is_pair p (a_pair c.args.r.a c.args.r.b) ≡ false) × _ = not_named _ _ _ (c.place_of.ensures p symbols arities stored) _ c.in-Err.is in
           rw (zeros, by_key _ _ _ _ _ _ _ (pairs_told _ x d is m) small c.key-k.ensures.is, lt-ltb _ _ c.if-k-s.false, none.0) (stops_with 7 _ none.1);
     }
 
-pub returns-in-Passed : goal.returns-in-Passed
+pub returns-in-Ok : goal.returns-in-Ok
 unfolding pair_read PlaceAnswer index Tells
-returns-in-Passed c =
+returns-in-Ok c =
     let zeros : eqb c.args.r.one 0 && eqb c.args.r.c 0 ≡ true = rw (eq-eqb _ _ c.if-r-ne0.false, eq-eqb _ _ c.if-r-ne0-2.false) in
     let small : c.args.r.b < 65536 = omega arith in
     record {
       on = after_pair _ _ refl refl refl;
       means = λ p symbols arities x d stored m is kind.
-          let one : is_pair p (a_pair c.args.r.a c.args.r.b) ≡ true = named _ _ _ (c.place_of.ensures p symbols arities stored) _ c.in-Passed.is in
+          let one : is_pair p (a_pair c.args.r.a c.args.r.b) ≡ true = named _ _ _ (c.place_of.ensures p symbols arities stored) _ c.in-Ok.is in
           rw (zeros, by_key _ _ _ _ _ _ _ (pairs_told _ x d is m) small c.key-k.ensures.is, lt-ltb _ _ c.if-k-s.false, one, kind)
           (answers _ _ (pair_mirrored _ x d is m _ _ _ c.key-k.ensures.is small));
     }
