@@ -8,15 +8,16 @@ use lib.Seq.{length-take-le}
 use Rattle.rewriting.specs.Terms.{Rule, System}
 use Rattle.rewriting.proofs.Basics.{Each, each_map, each_left, each_right}
 use Rattle.records.specs.declared.Record.{Record}
-use Rattle.records.specs.declared.Answer.{Answer}
-use Rattle.records.specs.Answers.{answer_outcome}
+use Rattle.std.specs.Prelude.{Result}
+use Rattle.records.specs.declared.order.Before.{Before}
+use Rattle.records.specs.declared.Refusal.{Refusal}
 use Rattle.records.specs.Outcomes.{Outcome, refused, passed, after}
 use Rattle.records.proofs.Outcomes.{not_passed, passed_same}
 use Rattle.terms.specs.Sides.{Node, variable, symbol, flat, side}
 use Rattle.terms.specs.Kept.{Kept, codes}
 use Rattle.terms.proofs.Parsing.{NodeFits, side_nodes}
 use Rattle.packs.specs.PackReading.{variable_count, rule_of}
-use Rattle.pack_reader.specs.Stored.{Run, node_steps, SameBefore, rule_judged, RuleRead}
+use Rattle.pack_reader.specs.Stored.{Run, node_steps, SameBefore, rule_judged, RuleRead, row_outcome}
 use Rattle.packs.proofs.OneRecord.{node_row, rule_of_passed}
 use Rattle.packs.proofs.Places.{at_rule}
 use Rattle.pack_reader.proofs.NodeSteps.{Small}
@@ -37,7 +38,7 @@ module _ (ar arities : List ℕ) (are : take (length ar) arities ≡ ar) (few : 
   small_fits (variable v) h = h
   small_fits (symbol f) h = h
 
-  judged_made : (l : ℕ) (ns : List Node) → Each (Small (length ar)) ns → rule_judged arities (codes (take l ns)) (codes (drop l ns)) ≡ after (made ar l ns) (λ u. passed 0)
+  judged_made : (l : ℕ) (ns : List Node) → Each (Small (length ar)) ns → rule_judged arities (codes (take l ns)) (codes (drop l ns)) ≡ after (made ar l ns) (λ u. passed tt)
   judged_made l ns small =
       let both : Each (NodeFits ar variable_count) (take l ns ++ drop l ns) = rw (take-append-drop l ns) (each_map small_fits small) in
       judged_as_terms (record { arities = ar; rules = [] }) arities are few (take l ns) (drop l ns)
@@ -60,11 +61,11 @@ module _ (ar arities : List ℕ) (are : take (length ar) arities ≡ ar) (few : 
       pub untouched : SameBefore base before now
 
     -- a refusal, whatever was to come
-    pub refused_told : (x : Answer) (m : ℕ) → answer_outcome x ≡ refused m → RuleRead (node_steps (length ar) 2 (b + c) rs) b arities x base before now
+    pub refused_told : (x : Result Before Refusal) (m : ℕ) → row_outcome x ≡ refused m → RuleRead (node_steps (length ar) 2 (b + c) rs) b arities x base before now
         → (k : Run → Rule → Outcome System) → after (node_steps (length ar) 2 (b + c) rs) (λ y. after (made ar b y.nodes) (λ u. k y u)) ≡ refused m
     refused_told x m e h k = go (node_steps (length ar) 2 (b + c) rs) refl h
       where
-        by_made : (o : Outcome Rule) (y : Run) → answer_outcome x ≡ after {A = ℕ} (after o (λ u. passed 0)) (λ k. passed y.last) → after o (λ u. k y u) ≡ refused m
+        by_made : (o : Outcome Rule) (y : Run) → row_outcome x ≡ after {A = Unit {0}} (after o (λ u. passed tt)) (λ k. passed y.last) → after o (λ u. k y u) ≡ refused m
         by_made (refused n) y told = as_refused System (sym told ∙ e)
         by_made (passed u) y told = not_passed (sym e ∙ told)
 
@@ -73,10 +74,10 @@ module _ (ar arities : List ℕ) (are : take (length ar) arities ≡ ar) (few : 
         go (passed y) s h =
             by_made (made ar b y.nodes) y (h.answers ∙ rw (judged_made b y.nodes (nodes_told (length ar) 2 (b + c) rs y s).small))
 
-    pub passed_told : (x : Answer) (row : ℕ) → 1 ≤ b + c → answer_outcome x ≡ passed row → RuleRead (node_steps (length ar) 2 (b + c) rs) b arities x base before now → RuleTold row
+    pub passed_told : (x : Result Before Refusal) (row : ℕ) → 1 ≤ b + c → row_outcome x ≡ passed row → RuleRead (node_steps (length ar) 2 (b + c) rs) b arities x base before now → RuleTold row
     passed_told x row some e h = go (node_steps (length ar) 2 (b + c) rs) refl h
       where
-        by_made : (o : Outcome Rule) (y : Run) → answer_outcome x ≡ after {A = ℕ} (after o (λ u. passed 0)) (λ k. passed y.last) → (u : Rule) × (o ≡ passed u) × (row ≡ y.last)
+        by_made : (o : Outcome Rule) (y : Run) → row_outcome x ≡ after {A = Unit {0}} (after o (λ u. passed tt)) (λ k. passed y.last) → (u : Rule) × (o ≡ passed u) × (row ≡ y.last)
         by_made (refused n) y told = not_passed (sym told ∙ e)
         by_made (passed u) y told = (u, refl, passed_same (sym e ∙ told))
 

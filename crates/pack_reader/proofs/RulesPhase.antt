@@ -169,7 +169,7 @@ pub record HeaderTold (i : ℕ) (r : Record) : Type 0 where
   pub right_some : 1 ≤ r.c
   pub right_few : r.c ≤ most_nodes
 
-pub header_told : (i : ℕ) (r : Record) (n : ℕ) → rule_header i r ≡ passed n → HeaderTold i r
+pub header_told : (i : ℕ) (r : Record) (n : Unit {0}) → rule_header i r ≡ passed n → HeaderTold i r
 unfolding rule_header side_count
 header_told i r n e =
     let zeros = test_held (eqb r.one 0 && eqb r.a i) _ 2 e in
@@ -194,7 +194,7 @@ module _ (last : ℕ) (ar : List ℕ) (us : List Rule) (r : Record) (rs : List R
     where
       go : (z f : Bool)
           → cond z (cond f (passed (inside ar us r.b (index r.kind) (r.b + r.c) [])) (refused 3)) (refused 2)
-          ≡ after {A = ℕ} (cond z (cond f (passed 0) (refused 3)) (refused 2)) (λ z. passed (inside ar us r.b (index r.kind) (r.b + r.c) []))
+          ≡ after {A = Unit {0}} (cond z (cond f (passed tt) (refused 3)) (refused 2)) (λ z. passed (inside ar us r.b (index r.kind) (r.b + r.c) []))
       go true true = refl
       go true false = refl
       go false f = refl
@@ -218,7 +218,7 @@ module _ (last : ℕ) (ar : List ℕ) (us : List Rule) (r : Record) (rs : List R
     pub header_refused : (n : ℕ) → rule_header (length us) r ≡ refused n → pack_from (r ∷ rs) (between_rules last ar us) ≡ refused n
     header_refused n h = rule_first ∙ rw h
 
-    pub rule_phase : (n : ℕ) → rule_header (length us) r ≡ passed n
+    pub rule_phase : (n : Unit {0}) → rule_header (length us) r ≡ passed n
         → pack_from (r ∷ rs) (between_rules last ar us)
         ≡ after (node_steps (length ar) 2 (r.b + r.c) rs) (λ y. rule_made ar us r.b y.last y.nodes (drop (r.b + r.c) rs))
     rule_phase n h =

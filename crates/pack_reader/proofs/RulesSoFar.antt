@@ -11,9 +11,10 @@ use lib.ListN.{length, get_or, take, drop, set, length-append, length-set, drop_
 use lib.Seq.{length-take-le, drop-drop, get_or-set_same, get_or-set_other, get_or_at}
 use Rattle.rewriting.specs.Terms.{Rule, System, no_rule}
 use Rattle.records.specs.declared.Record.{Record}
-use Rattle.records.specs.declared.Answer.{Answer}
-use Rattle.records.specs.declared.Wanted.TheVariants.{Found, Stray}
-use Rattle.records.specs.Answers.{answer_outcome}
+use Rattle.std.specs.Prelude.{Result}
+use Rattle.records.specs.declared.order.Before.{Before}
+use Rattle.records.specs.declared.Refusal.{Refusal}
+use Rattle.std.specs.Prelude.{Some, None}
 use Rattle.records.specs.Outcomes.{Outcome, refused, passed, after}
 use Rattle.records.specs.Records.{record_at, all_records}
 use Rattle.records.specs.Order.{s_symbol, r_rule, index, may_follow, pack_edge}
@@ -23,7 +24,7 @@ use Rattle.records.proofs.Table.{kind_of}
 use Rattle.terms.specs.Sides.{flat}
 use Rattle.terms.specs.Kept.{Kept}
 use Rattle.packs.specs.PackReading.{between_rules, pack_end, pack_from}
-use Rattle.pack_reader.specs.Stored.{RuleAt, SameBefore, node_steps, RuleRead, rule_header, row_after}
+use Rattle.pack_reader.specs.Stored.{RuleAt, SameBefore, node_steps, RuleRead, rule_header, row_after, row_outcome}
 use Rattle.packs.proofs.OneRecord.{stray_record}
 use Rattle.packs.proofs.Places.{Between, at_start, after_symbol, after_node, between_symbol, between_kind}
 use Rattle.pack_reader.proofs.Wanted.{found_at, stray_at}
@@ -136,12 +137,12 @@ module _ (pack arities : List ℕ) (symbols : ℕ) (fits : symbols ≤ length ar
       there : drop at (all_records pack) ≡ record_at pack (8 * at) ∷ drop (at + 1) (all_records pack)
       there = drop_records pack at h ∙ rw (add-one at)
 
-      pub stray : wanted_at pack (8 * at) last 0 false ≡ Stray → from_rules pack arities symbols ≡ refused 2
+      pub stray : wanted_at pack (8 * at) last 0 false ≡ None → from_rules pack arities symbols ≡ refused 2
       stray w =
           sym s.goes_on
           ∙ rw there (stray_record (between_rules last (take symbols arities) s.rules) (record_at pack (8 * at)) _ (stray_at pack (8 * at) last 0 false w))
 
-      module _ (r : Record) (w : wanted_at pack (8 * at) last 0 false ≡ Found r)
+      module _ (r : Record) (w : wanted_at pack (8 * at) last 0 false ≡ Some r)
           (no_symbol : 8 * symbols + 8 ≤ length pack → (record_at pack (8 * symbols)).kind ≡ s_symbol → ⊥) where
         follows : may_follow last (index r.kind) 0 false ≡ true
         follows = let f = found_at pack (8 * at) last 0 false w in rw f.1 f.0
@@ -166,7 +167,7 @@ module _ (pack arities : List ℕ) (symbols : ℕ) (fits : symbols ≤ length ar
             sym s.goes_on
             ∙ rw (there, is_there) (header_refused last (take symbols arities) s.rules r _ follows is_rule n (rw s.many e))
 
-        module _ (few : symbols ≤ 64) (m : ℕ) (head : rule_header i r ≡ passed m) where
+        module _ (few : symbols ≤ 64) (m : Unit {0}) (head : rule_header i r ≡ passed m) where
           -- the head passed: the nodes come next
           then_nodes : from_rules pack arities symbols
               ≡ after (node_steps symbols 2 (r.b + r.c) (drop (at + 1) (all_records pack)))
@@ -176,20 +177,20 @@ module _ (pack arities : List ℕ) (symbols : ℕ) (fits : symbols ≤ length ar
               sym s.goes_on
               ∙ rw (there, is_there) (rule_phase last (take symbols arities) s.rules r _ follows is_rule m (rw s.many head) ∙ rw symbols_long)
 
-          module _ (now : List ℕ) (x : Answer) (read : RuleRead (node_steps symbols 2 (r.b + r.c) (drop (at + 1) (all_records pack))) r.b arities x base nodes now) where
+          module _ (now : List ℕ) (x : Result Before Refusal) (read : RuleRead (node_steps symbols 2 (r.b + r.c) (drop (at + 1) (all_records pack))) r.b arities x base nodes now) where
             known : take (length (take symbols arities)) arities ≡ take symbols arities
             known = rw symbols_long
 
             read_rule : RuleRead (node_steps (length (take symbols arities)) 2 (r.b + r.c) (drop (at + 1) (all_records pack))) r.b arities x base nodes now
             read_rule = rw symbols_long read
 
-            pub rule_refuses : (n : ℕ) → answer_outcome x ≡ refused n → from_rules pack arities symbols ≡ refused n
+            pub rule_refuses : (n : ℕ) → row_outcome x ≡ refused n → from_rules pack arities symbols ≡ refused n
             rule_refuses n e =
                 then_nodes
                 ∙ (rw symbols_long at (refused_told (take symbols arities) arities known (rw symbols_long few) r.b r.c base (drop (at + 1) (all_records pack)) nodes now x n e read_rule
                 (λ y u. pack_from (drop (r.b + r.c) (drop (at + 1) (all_records pack))) (between_rules y.last (take symbols arities) (s.rules ++ (u ∷ []))))))
 
-            module _ (row : ℕ) (e : answer_outcome x ≡ passed row) (room : 2 * i + 2 < length starts) where
+            module _ (row : ℕ) (e : row_outcome x ≡ passed row) (room : 2 * i + 2 < length starts) where
               told : RuleTold (take symbols arities) arities known (rw symbols_long few) r.b r.c base (drop (at + 1) (all_records pack)) nodes now row
               told =
                   let t = header_told i r m head in

@@ -235,7 +235,7 @@ module _ (p : System) (arities : List ℕ) (are : take (length p.arities) aritie
 
   -- 4, 5, 6
 
-  by_tests : (u : Rule) (a b : Bool) → cond {A = Outcome ℕ} a (cond b (passed 0) (refused 6)) (refused 5) ≡ after (cond a (cond b (passed u) (refused 6)) (refused 5)) (λ v. passed 0)
+  by_tests : (u : Rule) (a b : Bool) → cond {A = Outcome (Unit {0})} a (cond b (passed tt) (refused 6)) (refused 5) ≡ after (cond a (cond b (passed u) (refused 6)) (refused 5)) (λ v. passed tt)
   by_tests u true true = refl
   by_tests u true false = refl
   by_tests u false b = refl
@@ -248,7 +248,7 @@ module _ (p : System) (arities : List ℕ) (are : take (length p.arities) aritie
       go (some t) e = absurd (not_both _ (side_balanced ns t fits e) h)
 
   judged_terms : (ls rs : List Node) (l r : Tree) → Each Fits ls → Each Fits rs → side p.arities ls ≡ some l → side p.arities rs ≡ some r
-      → cond {A = Outcome ℕ} (ltb (get_or (codes ls) 0 0) 64) (cond (variables_in (codes rs) (codes ls)) (passed 0) (refused 6)) (refused 5) ≡ after (rule_of (some l) (some r)) (λ u. passed 0)
+      → cond {A = Outcome (Unit {0})} (ltb (get_or (codes ls) 0 0) 64) (cond (variables_in (codes rs) (codes ls)) (passed tt) (refused 6)) (refused 5) ≡ after (rule_of (some l) (some r)) (λ u. passed tt)
   unfolding rule_of
   judged_terms ls rs l r fits gits e f =
       let root : ltb (get_or (codes ls) 0 0) 64 ≡ is_app l = rw (side_nodes p.arities ls l e) (root_byte l (side_term p variable_count ls l e fits)) in
@@ -257,7 +257,7 @@ module _ (p : System) (arities : List ℕ) (are : take (length p.arities) aritie
       rw (root, same) (by_tests (record { left = l; right = r }) (is_app l) (all_in (variables r) (variables l)))
 
   pub judged_as_terms : (ls rs : List Node) → Each Fits ls → Each Fits rs
-      → rule_judged arities (codes ls) (codes rs) ≡ after (rule_of (side p.arities ls) (side p.arities rs)) (λ u. passed 0)
+      → rule_judged arities (codes ls) (codes rs) ≡ after (rule_of (side p.arities ls) (side p.arities rs)) (λ u. passed tt)
   unfolding rule_judged rule_of
   judged_as_terms ls rs fits gits =
       by_test (balanced arities 1 (codes ls))

@@ -11,10 +11,10 @@ use lib.Seq.{length-take-le}
 use Rattle.rewriting.specs.Terms.{System, rule}
 use Rattle.rewriting.specs.Systems.{Good}
 use Rattle.rewriting.proofs.Trees.{term_not_list}
-use Rattle.records.specs.declared.Answer.{Answer}
-use Rattle.records.specs.declared.Answer.TheVariants.{Passed, Refused}
+use Rattle.std.specs.Prelude.{Result, Ok, Err}
 use Rattle.records.specs.declared.Refusal.{Refusal}
-use Rattle.records.specs.Answers.{number_of, answer_outcome}
+use Rattle.records.specs.declared.Refusal.{Refusal}
+use Rattle.records.specs.Answers.{number_of, outcome_of}
 use Rattle.records.specs.Outcomes.{Outcome, refused, passed, after}
 use Rattle.records.specs.Records.{record_at, all_records, length_bad}
 use Rattle.records.specs.Order.{s_symbol}
@@ -48,15 +48,15 @@ module _ (pack : List ℕ) (file : Whole most_pack_bytes pack) where
 
   -- THE SYMBOLS
 
-  pub symbols_refused : {a : Answer} (x : Refusal) (arities : List ℕ) → SymbolsRead (symbol_steps 0 0 (all_records pack)) a arities → a ≡ Refused x
+  pub symbols_refused : {a : Result ℕ Refusal} (x : Refusal) (arities : List ℕ) → SymbolsRead (symbol_steps 0 0 (all_records pack)) a arities → a ≡ Err x
       → read_pack pack ≡ refused (number_of x)
   unfolding SymbolsRead
   symbols_refused {a} x arities h e = in_phases ∙ go (symbol_steps 0 0 (all_records pack)) h
     where
       go : (o : Outcome (List ℕ)) → SymbolsRead o a arities
           → after o (λ ar. pack_from (drop (length ar) (all_records pack)) (between_rules (row_after (length ar)) ar [])) ≡ refused (number_of x)
-      go (refused n) h = as_refused System (sym h ∙ ap answer_outcome e)
-      go (passed ar) h = not_passed (ap answer_outcome (sym e) ∙ h.0)
+      go (refused n) h = as_refused System (sym h ∙ ap outcome_of e)
+      go (passed ar) h = not_passed (ap outcome_of (sym e) ∙ h.0)
 
   -- so many symbols were read: no other stands after them, and the rules are to be read
   pub record SymbolsDone (arities : List ℕ) (s : ℕ) : Type 0 where
@@ -64,14 +64,14 @@ module _ (pack : List ℕ) (file : Whole most_pack_bytes pack) where
     pub next : 8 * s + 8 ≤ length pack → (record_at pack (8 * s)).kind ≡ s_symbol → ⊥
     pub then : read_pack pack ≡ from_rules pack arities s
 
-  pub symbols_done : {a : Answer} (s : ℕ) (arities : List ℕ) → SymbolsRead (symbol_steps 0 0 (all_records pack)) a arities → a ≡ Passed s → SymbolsDone arities s
+  pub symbols_done : {a : Result ℕ Refusal} (s : ℕ) (arities : List ℕ) → SymbolsRead (symbol_steps 0 0 (all_records pack)) a arities → a ≡ Ok s → SymbolsDone arities s
   unfolding SymbolsRead
   symbols_done {a} s arities h e = go (symbol_steps 0 0 (all_records pack)) refl h
     where
       go : (o : Outcome (List ℕ)) → symbol_steps 0 0 (all_records pack) ≡ o → SymbolsRead o a arities → SymbolsDone arities s
-      go (refused n) q h = not_passed (sym h ∙ ap answer_outcome e)
+      go (refused n) q h = not_passed (sym h ∙ ap outcome_of e)
       go (passed ar) q h =
-          let many : s ≡ length ar = passed_same (ap answer_outcome (sym e) ∙ h.0) in
+          let many : s ≡ length ar = passed_same (ap outcome_of (sym e) ∙ h.0) in
           let are : take s arities ≡ ar = rw many h.1 in
           let t = symbols_told (all_records pack) 0 0 ar (omega arith) q in
           record {
@@ -83,14 +83,14 @@ module _ (pack : List ℕ) (file : Whole most_pack_bytes pack) where
   -- THE RULES
 
   module _ (arities : List ℕ) (s : ℕ) (d : SymbolsDone arities s) where
-    pub rules_refused : {a : Answer} (x : Refusal) (starts nodes : List ℕ) → RulesRead (from_rules pack arities s) (take s arities) a starts nodes → a ≡ Refused x
+    pub rules_refused : {a : Result ℕ Refusal} (x : Refusal) (starts nodes : List ℕ) → RulesRead (from_rules pack arities s) (take s arities) a starts nodes → a ≡ Err x
         → read_pack pack ≡ refused (number_of x)
     unfolding RulesRead
     rules_refused {a} x starts nodes h e = d.then ∙ go (from_rules pack arities s) h
       where
         go : (o : Outcome System) → RulesRead o (take s arities) a starts nodes → o ≡ refused (number_of x)
-        go (refused n) h = as_refused System (sym h ∙ ap answer_outcome e)
-        go (passed p) h = not_passed (ap answer_outcome (sym e) ∙ h.0)
+        go (refused n) h = as_refused System (sym h ∙ ap outcome_of e)
+        go (passed p) h = not_passed (ap outcome_of (sym e) ∙ h.0)
 
     -- so many rules were read
     pub record RulesDone (starts nodes : List ℕ) (n : ℕ) : Type 0 where
@@ -100,14 +100,14 @@ module _ (pack : List ℕ) (file : Whole most_pack_bytes pack) where
       pub arities_are : system.arities ≡ take s arities
       pub kept : (i : ℕ) → i < length system.rules → RuleAt starts nodes i (rule system i)
 
-    pub rules_done : {a : Answer} (n : ℕ) (starts nodes : List ℕ) → RulesRead (from_rules pack arities s) (take s arities) a starts nodes → a ≡ Passed n → RulesDone starts nodes n
+    pub rules_done : {a : Result ℕ Refusal} (n : ℕ) (starts nodes : List ℕ) → RulesRead (from_rules pack arities s) (take s arities) a starts nodes → a ≡ Ok n → RulesDone starts nodes n
     unfolding RulesRead
     rules_done {a} n starts nodes h e = go (from_rules pack arities s) refl h
       where
         go : (o : Outcome System) → from_rules pack arities s ≡ o → RulesRead o (take s arities) a starts nodes → RulesDone starts nodes n
-        go (refused m) q h = not_passed (sym h ∙ ap answer_outcome e)
+        go (refused m) q h = not_passed (sym h ∙ ap outcome_of e)
         go (passed p) q h =
-            record { system = p; read = d.then ∙ q; many = passed_same (ap answer_outcome (sym e) ∙ h.0); arities_are = h.1; kept = h.2 }
+            record { system = p; read = d.then ∙ q; many = passed_same (ap outcome_of (sym e) ∙ h.0); arities_are = h.1; kept = h.2 }
 
     module _ (starts nodes : List ℕ) (n : ℕ) (r : RulesDone starts nodes n) where
       good : GoodPack r.system

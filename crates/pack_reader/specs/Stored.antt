@@ -1,25 +1,23 @@
 -- How the code keeps a pack that was read: in arrays that the caller lends, a byte a node. The contracts between our own
 -- functions speak of it; no promise to a user does.
-use Rattle.std.specs.Prelude.{◌≡◌, Bool, true, false, ◌&&◌, ◌||◌, cond, List, [], ◌∷◌, ℕ, zero, suc, ◌+◌, ◌*◌, ◌-◌, ◌%◌, ◌≤◌, ◌<◌, ltb, leb, eqb, length, get_or, take, drop, replicate}
+use Rattle.std.specs.Prelude.{◌≡◌, Bool, true, false, Option, None, Some, Result, Ok, Err, ◌&&◌, ◌||◌, cond, List, [], ◌∷◌, ℕ, zero, suc, ◌+◌, ◌*◌, ◌-◌, ◌%◌, ◌≤◌, ◌<◌, ltb, leb, eqb, length, get_or, take, drop, replicate}
 use Rattle.rewriting.specs.Terms.{Rule, System, rule}
 use Rattle.rewriting.specs.Pairs.{defined}
 use Rattle.rewriting.specs.Systems.{member}
 use Rattle.records.specs.declared.Record.{Record}
-use Rattle.records.specs.declared.Answer.{Answer}
+use Rattle.records.specs.declared.order.Before.{Before}
 use Rattle.records.specs.declared.Refusal.{Refusal}
-use Rattle.records.specs.Answers.{number_of, answer_outcome}
+use Rattle.records.specs.Answers.{number_of, outcome_of}
 use Rattle.records.specs.Outcomes.{Outcome, refused, passed, after}
 use Rattle.records.specs.Records.{record_at}
 use Rattle.records.specs.Files.{Whole}
+use Rattle.records.specs.Rows.{row_number}
 use Rattle.records.specs.Order.{s_symbol, v_variable, index, may_follow}
 use Rattle.terms.specs.Sides.{Node, flat}
 use Rattle.terms.specs.Kept.{code, codes, Kept, balanced, nodes_room, starts_room, symbols_room}
 use Rattle.packs.specs.PackReading.{node_zeros, node_of, side_count, most_pack_bytes, most_symbols, most_arity, most_rules, variable_count}
 use Rattle.packs.specs.Encoding.{GoodPack}
-use Rattle.pack_reader.specs.declared.sides.RightSide.{RightSide}
 use Rattle.pack_reader.specs.declared.Counts.{Counts}
-use Rattle.pack_reader.specs.declared.PackRead.{PackRead}
-use Rattle.pack_reader.specs.declared.PackRead.TheVariants.{Read, Refused as PackRefused}
 
 -- rule i's left side begins at starts[2i], its right side at starts[2i + 1], and ends where the next left side begins
 pub record RuleAt (starts nodes : List ℕ) (i : ℕ) (r : Rule) : Type 0 where
@@ -76,9 +74,14 @@ pub record SameBefore (base : ℕ) (before now : List ℕ) : Type 0 where
   pub long : length now ≡ length before
   pub same : take base now ≡ take base before
 
+-- a row that is answered, by its number
+abbrev pub row_outcome : Result Before Refusal → Outcome ℕ
+row_outcome (Ok k) = passed (row_number k)
+row_outcome (Err x) = refused (number_of x)
+
 -- what `read_nodes` answers and leaves: the nodes from `base` on, the bytes before them untouched
-pub record NodesRead (o : Outcome Run) (x : Answer) (base : ℕ) (before now : List ℕ) : Type 0 where
-  pub answers : answer_outcome x ≡ after o (λ y. passed y.last)
+pub record NodesRead (o : Outcome Run) (x : Result Before Refusal) (base : ℕ) (before now : List ℕ) : Type 0 where
+  pub answers : row_outcome x ≡ after o (λ y. passed y.last)
   pub untouched : SameBefore base before now
   pub kept : (y : Run) → o ≡ passed y → Kept now base y.nodes
 
@@ -96,16 +99,16 @@ unfoldable pub variables_in : (these those : List ℕ) → Bool
 variables_in [] ds = true
 variables_in (c ∷ cs) ds = (ltb c 64 || (ltb c 80 && member c ds)) && variables_in cs ds
 
-unfoldable pub rule_judged : (arities left right : List ℕ) → Outcome ℕ
+unfoldable pub rule_judged : (arities left right : List ℕ) → Outcome (Unit {0})
 rule_judged ar ls rs =
     cond (balanced ar 1 ls && balanced ar 1 rs)
-    (cond (ltb (get_or ls 0 0) 64) (cond (variables_in rs ls) (passed 0) (refused 6)) (refused 5))
+    (cond (ltb (get_or ls 0 0) 64) (cond (variables_in rs ls) (passed tt) (refused 6)) (refused 5))
     (refused 4)
 
 -- what `read_rule` answers and leaves: the nodes, then 4, 5, 6 in bytes
-pub record RuleRead (o : Outcome Run) (left : ℕ) (arities : List ℕ) (x : Answer) (base : ℕ) (before now : List ℕ) : Type 0 where
+pub record RuleRead (o : Outcome Run) (left : ℕ) (arities : List ℕ) (x : Result Before Refusal) (base : ℕ) (before now : List ℕ) : Type 0 where
   pub answers :
-      answer_outcome x ≡ after o (λ y. after (rule_judged arities (codes (take left y.nodes)) (codes (drop left y.nodes))) (λ k. passed y.last))
+      row_outcome x ≡ after o (λ y. after (rule_judged arities (codes (take left y.nodes)) (codes (drop left y.nodes))) (λ k. passed y.last))
   pub untouched : SameBefore base before now
   pub kept : (y : Run) → o ≡ passed y → Kept now base y.nodes
 
@@ -150,10 +153,10 @@ pub record LeftJudged (arities nodes : List ℕ) (seen : List Bool) (one : Bool)
   pub long : length seen ≡ variable_count
   pub variables : one ≡ true → SeenIn nodes seen
 
--- what `right_side` answers: the same, and if so, whether all its variables were seen
-pub record RightJudged (arities nodes : List ℕ) (seen : List Bool) (r : RightSide) : Type 0 where
-  pub told : r.one ≡ balanced arities 1 nodes
-  pub all_told : r.one ≡ true → r.closed ≡ all_seen seen nodes
+-- what `right_side` answers: nothing where they are not, else whether all its variables were seen
+abbrev pub RightJudged : (arities nodes : List ℕ) → (seen : List Bool) → Option Bool → Type 0
+RightJudged ar ns sn None = balanced ar 1 ns ≡ false
+RightJudged ar ns sn (Some closed) = (balanced ar 1 ns ≡ true) × (closed ≡ all_seen sn ns)
 
 -- both sides of a rule
 pub record SidesAsked (arities nodes : List ℕ) (left right end : ℕ) : Type 0 where
@@ -199,19 +202,19 @@ pub record SymbolsAsked (pack arities : List ℕ) : Type 0 where
   pub file : Whole most_pack_bytes pack
   pub arities_long : length arities ≡ symbols_room
 
-unfoldable pub SymbolsRead : Outcome (List ℕ) → Answer → (arities : List ℕ) → Type 0
-SymbolsRead (refused n) x z = answer_outcome x ≡ refused n
-SymbolsRead (passed ar) x z = (answer_outcome x ≡ passed (length ar)) × (take (length ar) z ≡ ar)
+unfoldable pub SymbolsRead : Outcome (List ℕ) → Result ℕ Refusal → (arities : List ℕ) → Type 0
+SymbolsRead (refused n) x z = outcome_of x ≡ refused n
+SymbolsRead (passed ar) x z = (outcome_of x ≡ passed (length ar)) × (take (length ar) z ≡ ar)
 
 -- RULES: the row of what stands before the first R, and all rules up to the end
 unfoldable pub row_after : (symbols : ℕ) → ℕ
 row_after zero = 0
 row_after (suc n) = 1
 
-unfoldable pub rule_header : (i : ℕ) → Record → Outcome ℕ
+unfoldable pub rule_header : (i : ℕ) → Record → Outcome (Unit {0})
 rule_header i r =
     cond (eqb r.one 0 && eqb r.a i)
-    (cond (ltb i most_rules && (side_count r.b && side_count r.c)) (passed 0) (refused 3))
+    (cond (ltb i most_rules && (side_count r.b && side_count r.c)) (passed tt) (refused 3))
     (refused 2)
 
 -- rules are to be read, of a pack whose first `symbols` records were its symbols
@@ -223,10 +226,10 @@ pub record RulesAsked (pack : List ℕ) (symbols : ℕ) (arities starts nodes : 
   pub nodes_long : length nodes ≡ nodes_room
   pub no_symbol_more : 8 * symbols + 8 ≤ length pack → (record_at pack (8 * symbols)).kind ≡ s_symbol → ⊥
 
-unfoldable pub RulesRead : Outcome System → (arities : List ℕ) → Answer → (starts nodes : List ℕ) → Type 0
-RulesRead (refused n) ar x ss ns = answer_outcome x ≡ refused n
+unfoldable pub RulesRead : Outcome System → (arities : List ℕ) → Result ℕ Refusal → (starts nodes : List ℕ) → Type 0
+RulesRead (refused n) ar x ss ns = outcome_of x ≡ refused n
 RulesRead (passed p) ar x ss ns =
-    (answer_outcome x ≡ passed (length p.rules)) × (p.arities ≡ ar) × ((i : ℕ) → i < length p.rules → RuleAt ss ns i (rule p i))
+    (outcome_of x ≡ passed (length p.rules)) × (p.arities ≡ ar) × ((i : ℕ) → i < length p.rules → RuleAt ss ns i (rule p i))
 
 -- THE PACK
 -- the arrays that are lent to keep it have their lengths
@@ -236,6 +239,6 @@ pub record Room (arities starts nodes flags : List ℕ) : Type 0 where
   pub nodes_long : length nodes ≡ nodes_room
   pub flags_long : length flags ≡ symbols_room
 
-unfoldable pub PackReadAs : Outcome System → PackRead → (arities starts nodes flags : List ℕ) → Type 0
-PackReadAs (refused n) x ar ss ns ms = (y : Refusal) × (x ≡ PackRefused y) × (number_of y ≡ n)
-PackReadAs (passed p) x ar ss ns ms = (c : Counts) × (x ≡ Read c) × Stored p c.symbols c.rules ar ss ns ms
+unfoldable pub PackReadAs : Outcome System → Result Counts Refusal → (arities starts nodes flags : List ℕ) → Type 0
+PackReadAs (refused n) x ar ss ns ms = (y : Refusal) × (x ≡ Err y) × (number_of y ≡ n)
+PackReadAs (passed p) x ar ss ns ms = (c : Counts) × (x ≡ Ok c) × Stored p c.symbols c.rules ar ss ns ms

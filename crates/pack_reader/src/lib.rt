@@ -8,7 +8,7 @@ mod symbols;
 ghost use Rattle.packs.specs.PackReading.{read_pack};
 ghost use Rattle.pack_reader.specs.Stored.{Room, PackReadAs};
 
-use records::{Answer, MOST_PACK_BYTES, Refusal};
+use records::{MOST_PACK_BYTES, Refusal};
 
 // Document 01's limit on a pack's rules.
 pub const MOST_RULES: usize = 64;
@@ -40,27 +40,18 @@ pub fn read_pack(
     starts: &mut [u16],
     nodes: &mut [u8],
     defined: &mut [u8],
-) -> PackRead
+) -> Result<Counts, Refusal>
     requires { Room arities.old starts.old nodes.old defined.old }
     ensures { PackReadAs (read_pack pack.now) result arities.new starts.new nodes.new defined.new }
 {
     if MOST_PACK_BYTES < pack.len() {
-        return PackRead::Refused(Refusal::CutFile);
+        return Err(Refusal::CutFile);
     }
     if pack.len() % 8 != 0 {
-        return PackRead::Refused(Refusal::CutFile);
+        return Err(Refusal::CutFile);
     }
-    match symbols::read_symbols(pack, arities) {
-        Answer::Refused(x) => PackRead::Refused(x),
-        Answer::Passed(s) => match rules::read_rules(pack, s, arities, starts, nodes) {
-            Answer::Refused(x) => PackRead::Refused(x),
-            Answer::Passed(n) => {
-                rules::flag_defined(starts, nodes, n, defined);
-                PackRead::Read(Counts {
-                    symbols: s,
-                    rules: n,
-                })
-            }
-        },
-    }
+    let symbols = symbols::read_symbols(pack, arities)?;
+    let rules = rules::read_rules(pack, symbols, arities, starts, nodes)?;
+    rules::flag_defined(starts, nodes, rules, defined);
+    Ok(Counts { symbols, rules })
 }

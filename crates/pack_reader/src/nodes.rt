@@ -1,37 +1,50 @@
 // The nodes of a rule, a byte each.
-ghost use Rattle.std.specs.Prelude.{◌≡◌, ◌≤◌, drop};
-ghost use Rattle.records.specs.Answers.{answer_outcome};
+ghost use Rattle.std.specs.Prelude.{◌≡◌, ◌+◌, ◌/◌, ◌≤◌, ◌<◌, drop};
+ghost use Rattle.records.specs.Answers.{outcome_of};
 ghost use Rattle.records.specs.Records.{all_records};
+ghost use Rattle.records.specs.Rows.{row_number};
 ghost use Rattle.pack_reader.specs.Stored.{node_outcome, coded, node_steps, NodesAsked, NodesRead};
 
-use records::{Answer, Record, Refusal, Wanted};
-use terms::{MOST_SYMBOLS, MOST_VARIABLES};
+use records::order::Before;
+use records::{Record, Refusal};
+use terms::{FIRST_VARIABLE, MOST_VARIABLES};
 
 // A node's byte: 2 for a field that is not zero, 3 for a number out of range.
-pub fn node_code(r: Record, symbols: usize) -> Answer
+pub fn node_code(r: Record, symbols: usize) -> Result<u8, Refusal>
     requires { symbols ≤ 64 }
-    ensures { answer_outcome result ≡ coded (node_outcome symbols r) }
+    ensures { outcome_of result ≡ coded (node_outcome symbols r) }
 {
     if r.one != 0 {
-        return Answer::Refused(Refusal::StrayRecord);
+        return Err(Refusal::StrayRecord);
     }
     if r.b != 0 {
-        return Answer::Refused(Refusal::StrayRecord);
+        return Err(Refusal::StrayRecord);
     }
     if r.c != 0 {
-        return Answer::Refused(Refusal::StrayRecord);
+        return Err(Refusal::StrayRecord);
     }
-    let a = r.a as usize;
+    let a = usize::from(r.a);
     if r.kind == b'V' {
         if a < MOST_VARIABLES {
-            return Answer::Passed(MOST_SYMBOLS + a);
+            return Ok(FIRST_VARIABLE + a as u8);
         }
-        return Answer::Refused(Refusal::OutOfRange);
+        return Err(Refusal::OutOfRange);
     }
     if a < symbols {
-        return Answer::Passed(a);
+        return Ok(a as u8);
     }
-    Answer::Refused(Refusal::OutOfRange)
+    Err(Refusal::OutOfRange)
+}
+
+// What stands before the next node: an application, or a variable.
+fn row_of(code: u8) -> Before
+    requires { code < 128 }
+    ensures { row_number result ≡ 3 + code / 64 }
+{
+    if code < FIRST_VARIABLE {
+        return Before::Application;
+    }
+    Before::Variable
 }
 
 // Reads `count` nodes, the first of them record `from`, to nodes[base..]. Answers the row of the last one's kind.
@@ -42,33 +55,23 @@ pub fn read_nodes(
     symbols: usize,
     nodes: &mut [u8],
     base: usize,
-) -> Answer
+) -> Result<Before, Refusal>
     requires { NodesAsked pack.now from count symbols nodes.old base }
     ensures { NodesRead (node_steps symbols 2 count (drop from (all_records pack.now))) result base nodes.old nodes.new }
 {
     let n = pack.len() / 8;
-    let mut last = records::order::RULE;
-    let mut j = 0;
-    while j < count {
+    let mut last = Before::Rule;
+    for j in 0..count {
         // After R, F and V the table lets no pack end while nodes are due.
         if n <= from + j {
-            return Answer::Refused(Refusal::StrayRecord);
+            return Err(Refusal::StrayRecord);
         }
-        let Wanted::Found(r) = records::read_wanted(pack, 8 * (from + j), last, count - j, false)
-        else {
-            return Answer::Refused(Refusal::StrayRecord);
+        let Some(r) = records::read_wanted(pack, 8 * (from + j), last, count - j, false) else {
+            return Err(Refusal::StrayRecord);
         };
-        match node_code(r, symbols) {
-            Answer::Refused(x) => {
-                return Answer::Refused(x);
-            }
-            Answer::Passed(code) => {
-                nodes[base + j] = code as u8;
-                // F's row, or V's, which comes next.
-                last = records::order::APPLICATION + code / MOST_SYMBOLS;
-                j = j + 1;
-            }
-        }
+        let code = node_code(r, symbols)?;
+        nodes[base + j] = code;
+        last = row_of(code);
     }
-    Answer::Passed(last)
+    Ok(last)
 }

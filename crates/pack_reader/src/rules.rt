@@ -1,43 +1,45 @@
 // The rules of a pack.
-ghost use Rattle.std.specs.Prelude.{◌≡◌, [], ◌+◌, ◌*◌, ◌<◌, length, drop, take, set, replicate};
-ghost use Rattle.records.specs.Answers.{answer_outcome};
+ghost use Rattle.std.specs.Prelude.{◌≡◌, [], ◌+◌, ◌*◌, drop, take, set};
+ghost use Rattle.records.specs.Answers.{outcome_of};
 ghost use Rattle.records.specs.Records.{all_records};
+ghost use Rattle.records.specs.Rows.{row_number};
 ghost use Rattle.packs.specs.PackReading.{pack_from, between_rules};
 ghost use Rattle.pack_reader.specs.Stored.{rule_header, node_steps, RuleAsked, RuleRead, EndsAsked, RulesAsked, RulesRead, row_after, FlagsAsked, Flagged};
 
 use crate::MOST_RULES;
-use records::{Answer, Record, Refusal, Wanted};
+use records::order::{Before, End};
+use records::{Record, Refusal};
 use terms::MOST_SYMBOLS;
 
 // As wide as the fields that hold such a count.
 const MOST_NODES: u16 = crate::MOST_NODES as u16;
 
 // R's fields: 2, then 3.
-fn header(r: Record, i: usize) -> Answer
-    ensures { answer_outcome result ≡ rule_header i r }
+fn header(r: Record, i: usize) -> Result<(), Refusal>
+    ensures { outcome_of result ≡ rule_header i r }
 {
     if r.one != 0 {
-        return Answer::Refused(Refusal::StrayRecord);
+        return Err(Refusal::StrayRecord);
     }
     if r.a as usize != i {
-        return Answer::Refused(Refusal::StrayRecord);
+        return Err(Refusal::StrayRecord);
     }
     if MOST_RULES <= i {
-        return Answer::Refused(Refusal::OutOfRange);
+        return Err(Refusal::OutOfRange);
     }
     if r.b < 1 {
-        return Answer::Refused(Refusal::OutOfRange);
+        return Err(Refusal::OutOfRange);
     }
     if MOST_NODES < r.b {
-        return Answer::Refused(Refusal::OutOfRange);
+        return Err(Refusal::OutOfRange);
     }
     if r.c < 1 {
-        return Answer::Refused(Refusal::OutOfRange);
+        return Err(Refusal::OutOfRange);
     }
     if MOST_NODES < r.c {
-        return Answer::Refused(Refusal::OutOfRange);
+        return Err(Refusal::OutOfRange);
     }
-    Answer::Passed(0)
+    Ok(())
 }
 
 // One rule's nodes and 4, 5, 6. Answers the row of the last node's kind.
@@ -50,23 +52,13 @@ fn read_rule(
     arities: &[u8],
     nodes: &mut [u8],
     base: usize,
-) -> Answer
+) -> Result<Before, Refusal>
     requires { RuleAsked pack.now from b c symbols arities.now nodes.old base }
     ensures { RuleRead (node_steps symbols 2 (b + c) (drop from (all_records pack.now))) b arities.now result base nodes.old nodes.new }
 {
-    match crate::nodes::read_nodes(pack, from, b + c, symbols, nodes, base) {
-        Answer::Refused(x) => Answer::Refused(x),
-        Answer::Passed(last) => match crate::sides::judge_rule(
-            arities,
-            nodes,
-            base,
-            base + b,
-            base + b + c,
-        ) {
-            Answer::Refused(x) => Answer::Refused(x),
-            Answer::Passed(_) => Answer::Passed(last),
-        },
-    }
+    let last = crate::nodes::read_nodes(pack, from, b + c, symbols, nodes, base)?;
+    crate::sides::judge_rule(arities, nodes, base, base + b, base + b + c)?;
+    Ok(last)
 }
 
 // Keeps where rule i's right side begins and where it ends.
@@ -78,6 +70,16 @@ fn keep_ends(starts: &mut [u16], i: usize, middle: usize, end: usize)
     starts[2 * i + 2] = end as u16;
 }
 
+// What stands before the first rule.
+fn row_after(symbols: usize) -> Before
+    ensures { row_number result ≡ row_after symbols }
+{
+    if symbols == 0 {
+        return Before::StartOfPack;
+    }
+    Before::Symbol
+}
+
 // Reads the rules, the first of them record `symbols`, to the end. Answers how many there are.
 pub fn read_rules(
     pack: &[u8],
@@ -85,60 +87,36 @@ pub fn read_rules(
     arities: &[u8],
     starts: &mut [u16],
     nodes: &mut [u8],
-) -> Answer
+) -> Result<usize, Refusal>
     requires { RulesAsked pack.now symbols arities.now starts.old nodes.old }
     ensures { RulesRead (pack_from (drop symbols (all_records pack.now)) (between_rules (row_after symbols) (take symbols arities.now) [])) (take symbols arities.now) result starts.new nodes.new }
 {
     let n = pack.len() / 8;
-    let mut last = records::order::SYMBOL;
-    if symbols == 0 {
-        last = records::order::START_OF_PACK;
-    }
+    let mut last = row_after(symbols);
     let mut at = symbols;
     let mut base = 0;
     let mut i = 0;
     starts[0] = 0;
+    // How far a turn goes only the header tells.
     while at < n {
-        let Wanted::Found(r) = records::read_wanted(pack, 8 * at, last, 0, false) else {
-            return Answer::Refused(Refusal::StrayRecord);
+        let Some(r) = records::read_wanted(pack, 8 * at, last, 0, false) else {
+            return Err(Refusal::StrayRecord);
         };
+        header(r, i)?;
         let b = r.b as usize;
         let c = r.c as usize;
-        match header(r, i) {
-            Answer::Refused(x) => {
-                return Answer::Refused(x);
-            }
-            Answer::Passed(_) => {}
-        }
-        match read_rule(pack, at + 1, b, c, symbols, arities, nodes, base) {
-            Answer::Refused(x) => {
-                return Answer::Refused(x);
-            }
-            Answer::Passed(row) => {
-                let end = base + b + c;
-                keep_ends(starts, i, base + b, end);
-                at = at + 1 + b + c;
-                base = end;
-                i = i + 1;
-                last = row;
-            }
-        }
+        last = read_rule(pack, at + 1, b, c, symbols, arities, nodes, base)?;
+        let end = base + b + c;
+        keep_ends(starts, i, base + b, end);
+        at = at + 1 + b + c;
+        base = end;
+        i = i + 1;
     }
     // A pack without rules ends here too.
-    if records::order::may_follow(last, records::order::PACK_END, 0, false) {
-        return Answer::Passed(i);
+    if records::order::may_end(last, End::Pack, 0, false) {
+        return Ok(i);
     }
-    Answer::Refused(Refusal::StrayRecord)
-}
-
-fn clear(defined: &mut [u8])
-    ensures { defined.new ≡ replicate (length defined.old) 0 }
-{
-    let mut f = 0;
-    while f < defined.len() {
-        defined[f] = 0;
-        f = f + 1;
-    }
+    Err(Refusal::StrayRecord)
 }
 
 // Flags the root of each left side.
@@ -146,14 +124,12 @@ pub fn flag_defined(starts: &[u16], nodes: &[u8], rules: usize, defined: &mut [u
     requires { FlagsAsked starts.now nodes.now rules defined.old }
     ensures { Flagged starts.now nodes.now rules defined.new }
 {
-    clear(defined);
-    let mut i = 0;
-    while i < rules {
+    defined.fill(0);
+    for i in 0..rules {
         let at = starts[2 * i] as usize;
         let c = nodes[at] as usize;
         if c < MOST_SYMBOLS {
             defined[c] = 1;
         }
-        i = i + 1;
     }
 }

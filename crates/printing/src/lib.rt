@@ -26,7 +26,7 @@ pub fn number(console: &Console, n: u64) -> io::Result<()> {
 
 // `refused` and the number.
 pub fn refused(console: &Console, x: Refusal) -> io::Result<()> {
-    let n = records::number(x);
+    let n = u32::from(x);
     println!(console; "refused {n}")
 }
 

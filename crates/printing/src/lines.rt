@@ -24,7 +24,7 @@ fn put_count(words: &[u8], n: u64, out: &mut [u8], at: usize) -> usize
 
 pub fn refused(console: &Console, name: &[u8], x: Refusal) -> io::Result<()> {
     let mut words = [0u8; 32];
-    let n = put_count(b" refused ", records::number(x) as u64, &mut words, 0);
+    let n = put_count(b" refused ", u64::from(u32::from(x)), &mut words, 0);
     let end = names::put(b"\n", &mut words, n);
     names::write_line(console, name, &words[..end])
 }

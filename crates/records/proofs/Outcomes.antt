@@ -7,6 +7,8 @@ use Prim.Native.Nat.{ℕ, ◌≤◌}
 use native.Mathlib.Omega.{arith}
 use lib.Dec.{leb}
 use borrow.Author.Tests.{leb-true, le-leb}
+use Rattle.std.specs.Prelude.{Result, Ok, Err}
+use Rattle.std.specs.Result.{IsErrAnd}
 use Rattle.records.specs.declared.Refusal.{Refusal}
 use Rattle.records.specs.declared.Refusal.TheVariants.{CutFile, StrayRecord, OutOfRange, BrokenSide, BareLeft, LooseVariable, NoSuchPair, PairCount, BackArc, SelfArc, Heavy, RuleRises, PairStays, ShortList, BadText, TextLimits, NoneLeaves, LostArgument, RuleStays, Full, WrongContinuation, EndsDiffer, SideSpent, NoSuchRule}
 use Rattle.records.specs.Answers.{number_of}
@@ -15,6 +17,11 @@ use Rattle.records.specs.Outcomes.{Outcome, refused, passed, after, refusal}
 -- a refusal is no passing
 pub not_passed : {A : Type 0} {C : Type 0} {n : ℕ} {x : A} → refused n ≡ passed x → C
 not_passed {A = A} {n = n} {x = x} e = let z : ◌≡◌ {A = ℕ} 0 1 = cc in absurd (omega arith)
+
+-- what `?` hands on is the refusal that it met
+pub handed_on : {A : Type 0} (x : Result A Refusal) {e : Refusal} → IsErrAnd x (λ d. d ≡ e) → x ≡ Err e
+handed_on (Ok y) h = absurd h
+handed_on (Err d) h = ap Err h
 
 pub passed_same : {A : Type 0} {x y : A} → passed x ≡ passed y → x ≡ y
 passed_same e = cc

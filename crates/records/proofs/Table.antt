@@ -144,29 +144,6 @@ row_says before {row} {l} {d} {w} e (el, ed, ew) none =
       weighted = rw ew (hits before 0 true w (omega arith));
     })
 
--- the empty rows
-pub empty_misses : (before : ℕ) → 11 ≤ before → before < certificate_start → row_misses before 0 0 0 ≡ 0
-unfolding index entry order when_in lets may_follow column_at bit sum_below distance misses row_misses
-empty_misses before h l =
-    let f : 11 + (before - 11) ≡ before = omega arith in
-    rw f at (zero_below 3 (λ i. row_misses (11 + i) 0 0 0) refl (before - 11) (omega arith))
-
--- they are those that are left when twelve are not it; five at a time, since `omega` splits each
-five_past : (b n : ℕ) → n ≤ b → (b ≡ n → ⊥) → (b ≡ n + 1 → ⊥) → (b ≡ n + 2 → ⊥) → (b ≡ n + 3 → ⊥) → (b ≡ n + 4 → ⊥) → n + 5 ≤ b
-five_past b n h n0 n1 n2 n3 n4 = omega arith
-
-pub rows_left : {U : Type 0} (b : ℕ) → b < rows
-    → (((((((((((U × (b ≡ 0 → ⊥)) × (b ≡ 1 → ⊥)) × (b ≡ 2 → ⊥)) × (b ≡ 3 → ⊥)) × (b ≡ 4 → ⊥)) × (b ≡ 5 → ⊥)) × (b ≡ 6 → ⊥)) × (b ≡ 7 → ⊥)) × (b ≡ 8 → ⊥)) × (b ≡ 9 → ⊥)) × (b ≡ 10 → ⊥)) × (b ≡ 14 → ⊥)
-    → (11 ≤ b) × (b < certificate_start)
-rows_left b h ((((((((((((_, n0), n1), n2), n3), n4), n5), n6), n7), n8), n9), n10), last) =
-    (one_past b 10 (five_past b 5 (five_past b 0 (omega arith) n0 n1 n2 n3 n4) n5 n6 n7 n8 n9) n10, before_last b h last)
-  where
-    one_past : (b n : ℕ) → n ≤ b → (b ≡ n → ⊥) → n + 1 ≤ b
-    one_past b n h no_n = omega arith
-
-    before_last : (b : ℕ) → b < rows → (b ≡ certificate_start → ⊥) → b < certificate_start
-    before_last b h last = omega arith
-
 -- while the count lasts, neither how much of it is left nor a weighting matters
 pub while_due_same : (before next due : ℕ) (weighted : Bool) → 1 ≤ due → may_follow before next due weighted ≡ may_follow before next 1 false
 unfolding may_follow lets

@@ -56,6 +56,21 @@ module _ (bs : List ℕ) where
         none_left (i + 8),
       )
 
+  two_at : (j k : ℕ) → j + 1 ≡ k → two bs j ≡ get_or bs j 0 + 256 * get_or bs k 0
+  unfolding two
+  two_at j k e = rw e refl
+
+  pub word_by_bytes : (i : ℕ) → word_at bs i ≡ get_or bs i 0 + 256 * get_or bs (i + 1) 0 + 65536 * get_or bs (i + 2) 0 + 16777216 * get_or bs (i + 3) 0 + 4294967296 * get_or bs (i + 4) 0 + 1099511627776 * get_or bs (i + 5) 0 + 281474976710656 * get_or bs (i + 6) 0 + 72057594037927936 * get_or bs (i + 7) 0
+  word_by_bytes i =
+      omega (
+        arith,
+        word_by_twos i,
+        two_at i (i + 1) refl,
+        two_at (i + 2) (i + 3) (omega arith),
+        two_at (i + 4) (i + 5) (omega arith),
+        two_at (i + 6) (i + 7) (omega arith),
+      )
+
   module _ (all : all_bytes bs ≡ true) where
     -- byte k of a number of n bytes
     pub nth_byte : (n i k : ℕ) → k < n → number_at n bs i / 256 ^ k % 256 ≡ get_or bs (i + k) 0

@@ -3,6 +3,33 @@
 use Rattle.std.specs.Prelude.{◌≡◌, Bool, true, false, cond, ℕ, ◌+◌, ◌/◌, ◌%◌, ◌^◌, ◌<◌, eqb}
 use Rattle.records.specs.Order.{pack_edge, certificate_edge, index, may_follow}
 use Rattle.records.specs.declared.order.Row.{Row}
+use Rattle.records.specs.declared.order.Before.{Before}
+use Rattle.records.specs.declared.order.Before.TheVariants.{StartOfPack, Symbol, Rule, Application, Variable, StartOfComponents, Component, Pair, Weight, Marked, Weighting, Counting, Innermost, Other, StartOfCertificate}
+use Rattle.records.specs.declared.order.End.{End}
+use Rattle.records.specs.declared.order.End.TheVariants.{Pack, Certificate}
+
+-- the definitions' row for what the code says stands before
+abbrev pub row_number : Before → ℕ
+row_number StartOfPack = 0
+row_number Symbol = 1
+row_number Rule = 2
+row_number Application = 3
+row_number Variable = 4
+row_number StartOfComponents = 5
+row_number Component = 6
+row_number Pair = 7
+row_number Weight = 8
+row_number Marked = 9
+row_number Weighting = 10
+row_number Counting = 11
+row_number Innermost = 12
+row_number Other = 13
+row_number StartOfCertificate = 14
+
+-- the column of a file's end
+abbrev pub edge : End → ℕ
+edge Pack = pack_edge
+edge Certificate = certificate_edge
 
 -- the definitions' column for the code's
 unfoldable pub column_at : ℕ → ℕ

@@ -1,13 +1,16 @@
 #![tactic(auto)]
 // Records of 8 bytes, of which both files are made, and the table of which kind may stand after which.
+mod meaning;
 pub mod order;
 pub mod reader;
 
-ghost use Rattle.std.specs.Prelude.{◌≡◌, true, ◌++◌, ◌+◌, ◌≤◌, ◌<◌, length, take, drop};
-ghost use Rattle.records.specs.Records.{two, record_at, fields, WordAt, record_bytes, all_bytes};
-ghost use Rattle.records.specs.Order.{rows};
+ghost use Rattle.std.specs.Prelude.{◌≡◌, Option, true, ◌++◌, ◌+◌, ◌≤◌, ◌<◌, length, take, drop};
+ghost use Rattle.records.specs.Records.{record_at, fields, WordAt, record_bytes, all_bytes};
+ghost use Rattle.records.specs.Rows.{row_number};
 ghost use Rattle.records.specs.Wanted.{wanted_at};
 ghost use Rattle.records.specs.Answers.{number_of};
+
+use order::Before;
 
 // Document 01's limits on a pack's bytes, a certificate's bytes and a pack's pairs.
 pub const MOST_PACK_BYTES: usize = 33792;
@@ -29,7 +32,7 @@ const BYTE_4: u64 = 0x100000000;
 const BYTE_6: u64 = 0x1000000000000;
 
 // A record as its fields. Byte 0 is the kind, byte 1 is `one`, and a, b and c are two bytes each, low byte first.
-#[derive(Clone, Copy)]
+#[derive(Clone, Copy, Debug, PartialEq, Eq)]
 pub struct Record {
     pub kind: u8,
     pub one: u8,
@@ -39,9 +42,9 @@ pub struct Record {
 }
 
 // Document 01's refusals 1 to 14 in its order, and document 02's, 15 to 24.
-#[derive(Clone, Copy)]
+#[derive(Clone, Copy, Debug, PartialEq, Eq)]
 pub enum Refusal {
-    CutFile,
+    CutFile = 1,
     StrayRecord,
     OutOfRange,
     BrokenSide,
@@ -74,42 +77,12 @@ pub enum Answer {
     Refused(Refusal),
 }
 
-// What stands at a place: a record of a kind that may stand there, or another.
-#[derive(Clone, Copy)]
-pub enum Wanted {
-    Found(Record),
-    Stray,
-}
-
 // The refusal's number in document 01's table.
-pub fn number(x: Refusal) -> u32
-    ensures { result ≡ number_of x }
-{
-    match x {
-        Refusal::CutFile => 1,
-        Refusal::StrayRecord => 2,
-        Refusal::OutOfRange => 3,
-        Refusal::BrokenSide => 4,
-        Refusal::BareLeft => 5,
-        Refusal::LooseVariable => 6,
-        Refusal::NoSuchPair => 7,
-        Refusal::PairCount => 8,
-        Refusal::BackArc => 9,
-        Refusal::SelfArc => 10,
-        Refusal::Heavy => 11,
-        Refusal::RuleRises => 12,
-        Refusal::PairStays => 13,
-        Refusal::ShortList => 14,
-        Refusal::BadText => 15,
-        Refusal::TextLimits => 16,
-        Refusal::NoneLeaves => 17,
-        Refusal::LostArgument => 18,
-        Refusal::RuleStays => 19,
-        Refusal::Full => 20,
-        Refusal::WrongContinuation => 21,
-        Refusal::EndsDiffer => 22,
-        Refusal::SideSpent => 23,
-        Refusal::NoSuchRule => 24,
+impl From<Refusal> for u32 {
+    ghost from_gives = { λ x n. n ≡ number_of x };
+
+    fn from(x: Refusal) -> u32 {
+        x as u32
     }
 }
 
@@ -118,20 +91,6 @@ pub fn all_bytes(s: &[u8])
     ensures { all_bytes s.now ≡ true }
 {}
 
-fn low(x: u8) -> u64
-    ensures { (result ≡ x) × (result < 256) }
-{
-    x as u64
-}
-
-// Bytes i and i + 1 as a number.
-fn two(s: &[u8], i: usize) -> u64
-    requires { i + 1 < length s.now }
-    ensures { (result ≡ two s.now i) × (result < 65536) }
-{
-    low(s[i]) + BYTE_1 * low(s[i + 1])
-}
-
 // The record that begins at byte i, put together as one number.
 pub fn word_at(s: &[u8], i: usize) -> u64
     requires { i + 8 ≤ length s.now }
@@ -139,7 +98,16 @@ pub fn word_at(s: &[u8], i: usize) -> u64
 {
     // For the contract: the fields are found again because these are bytes.
     all_bytes(s);
-    two(s, i) + BYTE_2 * two(s, i + 2) + BYTE_4 * two(s, i + 4) + BYTE_6 * two(s, i + 6)
+    u64::from_le_bytes([
+        s[i],
+        s[i + 1],
+        s[i + 2],
+        s[i + 3],
+        s[i + 4],
+        s[i + 5],
+        s[i + 6],
+        s[i + 7],
+    ])
 }
 
 // The fields of a record that was put together as a number.
@@ -168,21 +136,17 @@ pub fn write_record(list: &mut [u8], at: usize, r: Record)
     requires { at + 8 ≤ length list.old }
     ensures { list.new ≡ take at list.old ++ (record_bytes r ++ drop (at + 8) list.old) }
 {
-    list[at] = r.kind;
-    list[at + 1] = r.one;
-    list[at + 2] = (r.a % 256) as u8;
-    list[at + 3] = (r.a / 256 % 256) as u8;
-    list[at + 4] = (r.b % 256) as u8;
-    list[at + 5] = (r.b / 256 % 256) as u8;
-    list[at + 6] = (r.c % 256) as u8;
-    list[at + 7] = (r.c / 256 % 256) as u8;
+    let [a, a_high] = r.a.to_le_bytes();
+    let [b, b_high] = r.b.to_le_bytes();
+    let [c, c_high] = r.c.to_le_bytes();
+    list[at..at + 8].copy_from_slice(&[r.kind, r.one, a, a_high, b, b_high, c, c_high]);
 }
 
 // The record that begins at byte i, if the table lets its kind stand there. A reader of the file gives it.
-pub fn read_wanted(s: &[u8], i: usize, before: usize, due: usize, weighted: bool) -> Wanted
-    requires { (i + 8 ≤ length s.now) × (before < rows) }
-    ensures { result ≡ wanted_at s.now i before due weighted }
+pub fn read_wanted(s: &[u8], i: usize, before: Before, due: usize, weighted: bool) -> Option<Record>
+    requires { i + 8 ≤ length s.now }
+    ensures { result ≡ wanted_at s.now i (row_number before) due weighted }
 {
-    let mut r = reader::Reader { file: s, at: i };
-    reader::next_wanted(&mut r, before, due, weighted)
+    let mut reader = reader::Reader { file: s, at: i };
+    reader.next_wanted(before, due, weighted)
 }

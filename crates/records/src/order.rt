@@ -1,35 +1,42 @@
 // Which kind may stand after which: the documents' table, asked by both readers.
 ghost use Rattle.std.specs.Prelude.{◌≡◌, ◌/◌, ◌%◌, ◌^◌, ◌<◌, eqb};
-ghost use Rattle.records.specs.Order.{rows, index, may_follow};
-ghost use Rattle.records.specs.Rows.{column_at, RowSays};
+ghost use Rattle.records.specs.Order.{index, may_follow};
+ghost use Rattle.records.specs.Rows.{column_at, row_number, edge, RowSays};
 
-// The rows that the readers name: the start of a pack and of the components, and a record's kind.
-pub const START_OF_PACK: usize = 0;
+// What stands before a record, a row of the table each: the start of a pack, of a certificate or of its components, or a record by its
+// kind.
+#[derive(Clone, Copy, Debug, PartialEq, Eq)]
+pub enum Before {
+    StartOfPack,
+    Symbol,
+    Rule,
+    Application,
+    Variable,
+    StartOfComponents,
+    Component,
+    Pair,
+    Weight,
+    Marked,
+    Weighting,
+    Counting,
+    Innermost,
+    Other,
+    StartOfCertificate,
+}
 
-pub const SYMBOL: usize = 1;
-
-pub const RULE: usize = 2;
-
-pub const APPLICATION: usize = 3;
-
-pub const START_OF_COMPONENTS: usize = 5;
-
-pub const COMPONENT: usize = 6;
-
-pub const PAIR: usize = 7;
-
-pub const WEIGHT: usize = 8;
-
-pub const MARKED: usize = 9;
-
-pub const WEIGHTING: usize = 10;
+// Which file ends.
+#[derive(Clone, Copy, Debug, PartialEq, Eq)]
+pub enum End {
+    Pack,
+    Certificate,
+}
 
 // The columns: the letters from A to Z, the ends of a pack and of a certificate, and one for every other byte.
 const LETTERS: usize = 26;
 
-pub const PACK_END: usize = LETTERS;
+const PACK_END: usize = LETTERS;
 
-pub const CERTIFICATE_END: usize = LETTERS + 1;
+const CERTIFICATE_END: usize = LETTERS + 1;
 
 const OTHER: usize = LETTERS + 2;
 
@@ -116,29 +123,26 @@ fn counted(lasts: u32, done: u32) -> Row
 }
 
 // The row of what stands before. A `match` is kept as a table in memory; a constant array is laid out anew at each use.
-fn row_of(before: usize) -> Row
-    requires { before < rows }
-    ensures { RowSays before result }
+fn row_of(before: Before) -> Row
+    ensures { RowSays (row_number before) result }
 {
     match before {
-        0 => ever(AFTER_PACK_START),
-        1 => ever(AFTER_S),
-        2 => ever(AFTER_R),
-        3 => counted(INSIDE_RULE, AFTER_RULE),
-        4 => counted(INSIDE_RULE, AFTER_RULE),
-        5 => ever(AFTER_COMPONENTS_START),
-        6 => ever(AFTER_C),
-        7 => Row {
+        Before::StartOfPack => ever(AFTER_PACK_START),
+        Before::Symbol => ever(AFTER_S),
+        Before::Rule => ever(AFTER_R),
+        Before::Application | Before::Variable => counted(INSIDE_RULE, AFTER_RULE),
+        Before::StartOfComponents => ever(AFTER_COMPONENTS_START),
+        Before::Component => ever(AFTER_C),
+        Before::Pair => Row {
             lasts: AMONG_PAIRS,
             done: AFTER_PAIRS,
             weighted: AFTER_WEIGHTED_PAIRS,
         },
-        8 => ever(AFTER_W),
-        9 => ever(AFTER_M),
-        10 => ever(AFTER_L),
-        // The start of a certificate; the rows between are empty.
-        14 => ever(AFTER_CERTIFICATE_START),
-        _ => ever(0),
+        Before::Weight => ever(AFTER_W),
+        Before::Marked => ever(AFTER_M),
+        Before::Weighting => ever(AFTER_L),
+        Before::StartOfCertificate => ever(AFTER_CERTIFICATE_START),
+        Before::Counting | Before::Innermost | Before::Other => ever(0),
     }
 }
 
@@ -146,10 +150,10 @@ fn row_of(before: usize) -> Row
 fn column(kind: u8) -> usize
     ensures { (result < 29) × (column_at result ≡ index kind) }
 {
-    match kind {
-        b'A'..=b'Z' => (kind - b'A') as usize,
-        _ => OTHER,
+    if kind.is_ascii_uppercase() {
+        return usize::from(kind - b'A');
     }
+    OTHER
 }
 
 // Whether a column's bit is set.
@@ -162,9 +166,9 @@ fn has(columns: u32, next: usize) -> bool
 
 // Whether column `next` may come, by the row of what stands before, the count still due and whether the component has a
 // weighting.
-pub fn may_follow(before: usize, next: usize, due: usize, weighted: bool) -> bool
-    requires { (before < rows) × (next < 29) }
-    ensures { result ≡ may_follow before (column_at next) due weighted }
+fn may_follow(before: Before, next: usize, due: usize, weighted: bool) -> bool
+    requires { next < 29 }
+    ensures { result ≡ may_follow (row_number before) (column_at next) due weighted }
 {
     let r = row_of(before);
     if due != 0 {
@@ -177,9 +181,18 @@ pub fn may_follow(before: usize, next: usize, due: usize, weighted: bool) -> boo
 }
 
 // Whether a record of this kind may stand.
-pub fn kind_may_follow(before: usize, kind: u8, due: usize, weighted: bool) -> bool
-    requires { before < rows }
-    ensures { result ≡ may_follow before (index kind) due weighted }
+pub fn kind_may_follow(before: Before, kind: u8, due: usize, weighted: bool) -> bool
+    ensures { result ≡ may_follow (row_number before) (index kind) due weighted }
 {
     may_follow(before, column(kind), due, weighted)
+}
+
+// Whether a file of this sort may end.
+pub fn may_end(before: Before, end: End, due: usize, weighted: bool) -> bool
+    ensures { result ≡ may_follow (row_number before) (edge end) due weighted }
+{
+    match end {
+        End::Pack => may_follow(before, PACK_END, due, weighted),
+        End::Certificate => may_follow(before, CERTIFICATE_END, due, weighted),
+    }
 }

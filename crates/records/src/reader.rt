@@ -1,9 +1,10 @@
 // The reader of both files: it knows its place, and gives the record there.
-ghost use Rattle.std.specs.Prelude.{◌≡◌, ◌+◌, ◌≤◌, ◌<◌, length};
-ghost use Rattle.records.specs.Order.{rows};
+ghost use Rattle.std.specs.Prelude.{◌≡◌, ◌+◌, ◌≤◌, length};
+ghost use Rattle.records.specs.Rows.{row_number};
 ghost use Rattle.records.specs.Wanted.{wanted_at};
 
-use crate::Wanted;
+use crate::Record;
+use crate::order::Before;
 
 // A file, and the byte where its next record begins.
 #[derive(Drop)]
@@ -13,23 +14,27 @@ pub struct Reader<'a> {
 }
 
 // The work: the record that begins at byte i, if the table lets its kind stand there.
-fn wanted_in(s: &[u8], i: usize, before: usize, due: usize, weighted: bool) -> Wanted
-    requires { (i + 8 ≤ length s.now) × (before < rows) }
-    ensures { result ≡ wanted_at s.now i before due weighted }
+fn wanted_in(s: &[u8], i: usize, before: Before, due: usize, weighted: bool) -> Option<Record>
+    requires { i + 8 ≤ length s.now }
+    ensures { result ≡ wanted_at s.now i (row_number before) due weighted }
 {
     let r = crate::record_at(s, i);
     if crate::order::kind_may_follow(before, r.kind, due, weighted) {
-        return Wanted::Found(r);
+        return Some(r);
     }
-    Wanted::Stray
+    None
 }
 
-// The next record, if the table lets its kind stand there. The reader moves on past it.
-pub fn next_wanted<'a>(r: &mut Reader<'a>, before: usize, due: usize, weighted: bool) -> Wanted
-    requires { (r.old.at + 8 ≤ length r.old.file.now) × (before < rows) }
-    ensures { (result ≡ wanted_at r.old.file.now r.old.at before due weighted) × (r.new.file ≡ r.old.file) × (r.new.at ≡ r.old.at + 8) }
-{
-    let at = r.at;
-    r.at = at + 8;
-    wanted_in(r.file, at, before, due, weighted)
+impl<'a> Reader<'a> {
+    // The next record, if the table lets its kind stand there. The reader moves on past it.
+    pub fn next_wanted(&mut self, before: Before, due: usize, weighted: bool) -> Option<Record>
+        requires { self.old.at + 8 ≤ length self.old.file.now }
+        ensures record { result ≡ wanted_at self.old.file.now self.old.at (row_number before) due weighted }
+        ensures same { self.new.file ≡ self.old.file }
+        ensures on { self.new.at ≡ self.old.at + 8 }
+    {
+        let at = self.at;
+        self.at = at + 8;
+        wanted_in(self.file, at, before, due, weighted)
+    }
 }

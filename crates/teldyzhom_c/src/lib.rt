@@ -29,7 +29,7 @@ pub extern "C" fn teldyzhom_check(pack: &[u8], certificate: &[u8]) -> u32
 {
     match teldyzhom::check_certificate(pack, certificate) {
         Checked::Accepted => 0,
-        Checked::Refused(x) => records::number(x),
+        Checked::Refused(x) => u32::from(x),
     }
 }
 
@@ -42,7 +42,7 @@ pub extern "C" fn teldyzhom_list(pack: &[u8], list: &mut [u8]) -> Reply
 {
     match teldyzhom::list_pairs(pack, list) {
         Answer::Refused(x) => Reply {
-            number: records::number(x),
+            number: u32::from(x),
             value: 0,
         },
         Answer::Passed(n) => Reply {
@@ -66,7 +66,7 @@ pub extern "C" fn teldyzhom_arc(
 {
     match teldyzhom::arc_runs(pack, rule, place, other_rule, other_place) {
         ArcAnswer::Refused(x) => Reply {
-            number: records::number(x),
+            number: u32::from(x),
             value: 0,
         },
         ArcAnswer::Yes => Reply {
@@ -89,7 +89,7 @@ pub extern "C" fn teldyzhom_read_text(text: &[u8], pack: &mut [u8]) -> Reply
 {
     match teldyzhom::read_text(text, pack) {
         Answer::Refused(x) => Reply {
-            number: records::number(x),
+            number: u32::from(x),
             value: 0,
         },
         Answer::Passed(n) => Reply {

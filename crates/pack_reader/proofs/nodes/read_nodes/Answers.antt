@@ -10,21 +10,22 @@ use native.Mathlib.Numerals.{add-one}
 use lib.ListN.{length, drop, set, length-set, length-drop, length-append, drop_of_length-le}
 use lib.Seq.{drop-set-add, take-suc-set, take-set-le}
 use Rattle.records.specs.declared.Record.{Record}
-use Rattle.records.specs.declared.Answer.{Answer}
-use Rattle.records.specs.declared.Answer.TheVariants.{Passed}
-use Rattle.records.specs.declared.Wanted.TheVariants.{Found, Stray}
-use Rattle.records.specs.Answers.{answer_outcome}
+use Rattle.std.specs.Prelude.{Result}
+use Rattle.records.specs.declared.order.Before.{Before}
+use Rattle.records.specs.declared.Refusal.{Refusal}
+use Rattle.std.specs.Prelude.{Some, None}
 use Rattle.records.specs.Outcomes.{Outcome, refused, passed, after}
 use Rattle.records.specs.Records.{record_at, all_records}
 use Rattle.records.specs.Order.{index, may_follow}
+use Rattle.records.specs.Rows.{row_number}
 use Rattle.records.specs.Wanted.{wanted_at}
 use Rattle.records.proofs.Bytes.{drop_records, length_of_records}
-use Rattle.records.proofs.Outcomes.{not_passed, passed_same}
+use Rattle.records.proofs.Outcomes.{not_passed, passed_same, handed_on}
 use Rattle.records.proofs.Table.{kind_of}
 use Rattle.terms.specs.Sides.{Node}
 use Rattle.terms.specs.Kept.{code, codes, Kept}
-use Rattle.packs.proofs.Places.{Inside, at_rule, inside_row, inside_next}
-use Rattle.pack_reader.specs.Stored.{Run, node_outcome, coded, more_run, node_steps, NodesRead}
+use Rattle.packs.proofs.Places.{Inside, at_rule, inside_next}
+use Rattle.pack_reader.specs.Stored.{Run, node_outcome, coded, more_run, node_steps, NodesRead, row_outcome}
 use Rattle.pack_reader.proofs.Wanted.{found_at, stray_at}
 use Rattle.pack_reader.proofs.NodeSteps.{Small, outcome_small, code_small, code_row, outcome_row, coded_passed, coded_refused, codes_append, steps_stray, steps_refused, steps_read, steps_end, with_nodes, with_none, with_more}
 use Rattle.pack_reader.proofs.nodes.read_nodes.Invariants.{SoFar, steps_left}
@@ -50,10 +51,10 @@ module _ (pack : List ℕ) (from count symbols last j : ℕ) (h : j < count) whe
         let e : suc (from + j) ≡ from + (j + 1) = omega arith in
         drop_records pack (from + j) k ∙ rw e
 
-    stray : wanted_at pack (8 * (from + j)) last (count - j) false ≡ Stray → steps_left pack from count symbols last j ≡ refused 2
+    stray : wanted_at pack (8 * (from + j)) last (count - j) false ≡ None → steps_left pack from count symbols last j ≡ refused 2
     stray w = rw there (steps_stray symbols last _ _ (count - j) (omega arith) (stray_at pack (8 * (from + j)) last (count - j) false w))
 
-    module _ {r : Record} (w : wanted_at pack (8 * (from + j)) last (count - j) false ≡ Found r) where
+    module _ {r : Record} (w : wanted_at pack (8 * (from + j)) last (count - j) false ≡ Some r) where
       stands : (may_follow last (index r.kind) (count - j) false ≡ true) × (record_at pack (8 * (from + j)) ≡ r)
       stands = let f = found_at pack (8 * (from + j)) last (count - j) false w in (rw f.1 f.0, sym f.1)
 
@@ -84,22 +85,22 @@ module _ (pack : List ℕ) (from count symbols base : ℕ) (before : List ℕ) w
 
   module _ (now : List ℕ) (last j : ℕ) (s : SoFar pack from count symbols base before now last j) where
     -- a refusal met here is the answer
-    refuses : {m : ℕ} (x : Answer) → answer_outcome x ≡ refused m → steps_left pack from count symbols last j ≡ refused m
+    refuses : {m : ℕ} (x : Result Before Refusal) → row_outcome x ≡ refused m → steps_left pack from count symbols last j ≡ refused m
         → NodesRead (node_steps symbols 2 count (drop from (all_records pack))) x base before now
     refuses {m} x a e =
         let all : node_steps symbols 2 count (drop from (all_records pack)) ≡ refused m = sym s.goes_on ∙ rw e in
         record { answers = rw all a; untouched = s.untouched; kept = λ y p. not_passed (sym all ∙ p) }
 
     -- all nodes are read
-    ends : j ≤ count → count ≤ j → base + count ≤ length now
-        → NodesRead (node_steps symbols 2 count (drop from (all_records pack))) (Passed last) base before now
+    ends : (x : Result Before Refusal) → row_outcome x ≡ passed last → j ≤ count → count ≤ j → base + count ≤ length now
+        → NodesRead (node_steps symbols 2 count (drop from (all_records pack))) x base before now
     unfolding node_steps with_nodes
-    ends h k fits =
+    ends x a h k fits =
         let z : count - j ≡ 0 = omega arith in
         let all : node_steps symbols 2 count (drop from (all_records pack)) ≡ passed (record { nodes = s.read; last = last }) =
         sym s.goes_on ∙ rw (z, append-nil s.read) in
         record {
-          answers = rw all;
+          answers = rw all a;
           untouched = s.untouched;
           kept = λ y p. subst (λ (u : Run). Kept now base u.nodes) (passed_same (sym all ∙ p)) (record { within = omega (arith, s.many); are = rw s.many s.kept });
         }
@@ -119,60 +120,42 @@ module _ (pack : List ℕ) (from count symbols base : ℕ) (before : List ℕ) w
         }
 
 pub loop-j-init : goal.loop-j-init
-loop-j-init c = (omega arith, at_rule, start _ _ _ _ _ _)
+loop-j-init c = (at_rule, start c.args.pack.now c.args.from c.args.count c.args.symbols c.args.base c.args.nodes.now)
 
 pub returns-then-n-from : goal.returns-then-n-from
 returns-then-n-from c =
     let l = c.loop-j in
-    refuses _ _ _ _ _ _ _ l.last l.j l.invariant.2 _ refl (none_stands _ _ _ _ l.last l.j c.loop-j-test.true c.if-n-from.true)
-
-pub read_wanted-requires : goal.read_wanted-requires
-read_wanted-requires c = omega (arith, inside_row c.loop-j.invariant.1)
+    refuses _ _ _ _ _ _ l.nodes _ l.j l.invariant.1 _ refl
+    (none_stands c.args.pack.now c.args.from c.args.count c.args.symbols (row_number l.last) l.j (omega arith) c.if-n-from.true)
 
 pub returns-in_default : goal.returns-in_default
 returns-in_default c =
-    let strayed : let l = c.loop-j in
-    let a = c.args in
-    wanted_at a.pack.now (8 * (a.from + l.j)) l.last (a.count - l.j) false ≡ Stray = sym c.read_wanted.ensures ∙ c.in_default.is in
     let l = c.loop-j in
-    refuses _ _ _ _ _ _ _ l.last l.j l.invariant.2 _ refl (stray _ _ _ _ l.last l.j c.loop-j-test.true c.if-n-from.false strayed)
+    refuses _ _ _ _ _ _ l.nodes _ l.j l.invariant.1 _ refl
+    (stray c.args.pack.now c.args.from c.args.count c.args.symbols (row_number l.last) l.j (omega arith) c.if-n-from.false (sym c.read_wanted.ensures ∙ c.in_default.is))
 
-pub returns-in-Refused : goal.returns-in-Refused
-returns-in-Refused c =
-    let found : let l = c.loop-j in
-    let a = c.args in
-    wanted_at a.pack.now (8 * (a.from + l.j)) l.last (a.count - l.j) false ≡ Found c.in-Found.r = sym c.read_wanted.ensures ∙ c.in-Found.is in
+pub returns-in_err-code : goal.returns-in_err-code
+returns-in_err-code c =
     let l = c.loop-j in
-    refuses _ _ _ _ _ _ _ l.last l.j l.invariant.2 _ refl
-    (node_refused _ _ _ _ l.last l.j c.loop-j-test.true c.if-n-from.false found
-    (sym (ap answer_outcome c.in-Refused.is) ∙ c.node_code.ensures))
+    refuses _ _ _ _ _ _ l.nodes _ l.j l.invariant.1 _ (ap row_outcome (handed_on c.from_residual.result c.from_residual.ensures.1))
+    (node_refused c.args.pack.now c.args.from c.args.count c.args.symbols (row_number l.last) l.j (omega arith) c.if-n-from.false (sym c.read_wanted.ensures ∙ c.in-Some.is)
+    c.in_err-code.ensures)
 
-pub overflow_cast-nodes : goal.overflow_cast-nodes
-overflow_cast-nodes c =
+pub row_of-last-requires : goal.row_of-last-requires
+row_of-last-requires c =
     let l = c.loop-j in
     let n =
-    node_read _ _ _ _ l.last l.j c.loop-j-test.true c.if-n-from.false (sym c.read_wanted.ensures ∙ c.in-Found.is) l.invariant.1 (omega arith)
-    (sym (ap answer_outcome c.in-Passed.is) ∙ c.node_code.ensures) in
-    omega (arith, n.byte_is, code_small _ n.node (omega arith) n.small)
-
-pub overflow_add-last : goal.overflow_add-last
-overflow_add-last c =
-    let l = c.loop-j in
-    let n =
-    node_read _ _ _ _ l.last l.j c.loop-j-test.true c.if-n-from.false (sym c.read_wanted.ensures ∙ c.in-Found.is) l.invariant.1 (omega arith)
-    (sym (ap answer_outcome c.in-Passed.is) ∙ c.node_code.ensures) in
-    omega (arith, n.byte_is, code_small _ n.node (omega arith) n.small)
+    node_read c.args.pack.now c.args.from c.args.count c.args.symbols (row_number l.last) l.j (omega arith) c.if-n-from.false (sym c.read_wanted.ensures ∙ c.in-Some.is) l.invariant.0 c.requires.symbols_few c.in_ok-code.ensures in
+    omega (arith, n.byte_is, code_small _ n.node c.requires.symbols_few n.small)
 
 pub loop-j-preserved : goal.loop-j-preserved
 loop-j-preserved c =
     let l = c.loop-j in
     let n =
-    node_read _ _ _ _ l.last l.j c.loop-j-test.true c.if-n-from.false (sym c.read_wanted.ensures ∙ c.in-Found.is) l.invariant.1 (omega arith)
-    (sym (ap answer_outcome c.in-Passed.is) ∙ c.node_code.ensures) in
-    let step = more _ _ _ _ _ _ l.nodes l.last l.j l.invariant.2 n (omega arith) in
-    (omega arith, n.inside, step)
+    node_read c.args.pack.now c.args.from c.args.count c.args.symbols (row_number l.last) l.j (omega arith) c.if-n-from.false (sym c.read_wanted.ensures ∙ c.in-Some.is) l.invariant.0 c.requires.symbols_few c.in_ok-code.ensures in
+    rw c.row_of-last.ensures (n.inside, more _ _ _ _ _ _ l.nodes _ l.j l.invariant.1 n (omega arith))
 
 pub returns : goal.returns
 returns c =
     let l = c.loop-j in
-    ends _ _ _ _ _ _ l.nodes l.last l.j l.invariant.2 l.invariant.0 c.loop-j-test.false (omega arith)
+    ends _ _ _ _ _ _ l.nodes _ l.j l.invariant.1 _ refl (omega arith) (omega arith) (omega arith)

@@ -2,10 +2,11 @@
 -- the records left, with these nodes before, are the steps of all.
 use mathlib.Core.Path.{◌≡◌}
 use mathlib.Core.List.{List}
-use Prim.Native.Nat.{ℕ, ◌+◌, ◌-◌, ◌≤◌}
+use Prim.Native.Nat.{ℕ, ◌+◌, ◌-◌}
 use lib.ListN.{length, take, drop}
 use Rattle.records.specs.Outcomes.{Outcome, after}
 use Rattle.records.specs.Records.{all_records}
+use Rattle.records.specs.Rows.{row_number}
 use Rattle.terms.specs.Sides.{Node}
 use Rattle.terms.specs.Kept.{codes}
 use Rattle.packs.proofs.Places.{Inside}
@@ -28,7 +29,4 @@ pub record SoFar (pack : List ℕ) (from count symbols base : ℕ) (before now :
 
 abbrev pub invariant-loop-j : goal.invariant-loop-j
 invariant-loop-j l =
-    (l.j ≤ l.count) × Inside l.last × SoFar l.pack l.from l.count l.symbols l.base l.initial.nodes l.nodes l.last l.j
-
-abbrev pub decreases-loop-j : goal.decreases-loop-j
-decreases-loop-j l = l.count - l.j
+    Inside (row_number l.last) × SoFar l.pack l.from l.count l.symbols l.base l.initial.nodes l.nodes (row_number l.last) l.j

@@ -4,7 +4,7 @@ use mathlib.Core.Bool.{Bool, true, false, cond}
 use mathlib.Core.List.{List}
 use Prim.Native.Nat.{ℕ, ◌≤◌, ◌<◌}
 use native.Mathlib.Omega.{arith}
-use borrow.Author.Tests.{not-true, not-false, lt-ltb, le-ltb}
+use borrow.Author.Tests.{lt-ltb, le-ltb}
 use lib.ListN.{length, get_or}
 use Rattle.records.specs.Outcomes.{refused, passed}
 use Rattle.terms.specs.Kept.{part, balanced}
@@ -29,7 +29,7 @@ module _ (ar ns : List ℕ) (left right end : ℕ) (l : balanced ar 1 (part ns l
   bare_left e = rw (l, r, part_more ns left right h k, le-ltb _ _ e)
 
   by_variables : get_or ns left 0 < 64 → (sn : List Bool) (b : Bool) → b ≡ all_seen sn (part ns right end) → length sn ≡ 16 → SeenIn (part ns left right) sn
-      → cond b (passed 0) (refused 6) ≡ rule_judged ar (part ns left right) (part ns right end)
+      → cond b (passed tt) (refused 6) ≡ rule_judged ar (part ns left right) (part ns right end)
   unfolding rule_judged
   by_variables e sn b all long seen =
       let first : get_or (part ns left right) 0 0 ≡ get_or ns left 0 = rw (part_more ns left right h k) in
@@ -38,33 +38,25 @@ module _ (ar ns : List ℕ) (left right end : ℕ) (l : balanced ar 1 (part ns l
 pub returns-then-not-left_side : goal.returns-then-not-left_side
 returns-then-not-left_side c = left_broken _ _ _ (sym c.left_side.ensures.told ∙ c.if-not-left_side.true)
 
-pub returns-then-not-r : goal.returns-then-not-r
-returns-then-not-r c =
-    right_broken _ _ _
-    (sym c.left_side.ensures.told ∙ c.if-not-left_side.false)
-    (sym c.right_side-r.ensures.told ∙ not-true _ c.if-not-r.true)
+pub returns-in_default : goal.returns-in_default
+returns-in_default c =
+    right_broken _ _ _ (sym c.left_side.ensures.told ∙ c.if-not-left_side.false) c.in_default.ensures
 
 pub returns-then-nodes-left-ge-FIRST_VARIABLE : goal.returns-then-nodes-left-ge-FIRST_VARIABLE
 returns-then-nodes-left-ge-FIRST_VARIABLE c =
-    bare_left _ _ _ _ _
-    (sym c.left_side.ensures.told ∙ c.if-not-left_side.false)
-    (sym c.right_side-r.ensures.told ∙ not-false _ c.if-not-r.false)
-    (omega arith)
-    (omega arith)
+    bare_left _ _ _ _ _ (sym c.left_side.ensures.told ∙ c.if-not-left_side.false) c.in-Some.ensures.0 (omega arith) (omega arith)
     c.if-nodes-left-ge-FIRST_VARIABLE.true
 
-pub returns-then-r : goal.returns-then-r
-returns-then-r c =
+pub returns-then-closed : goal.returns-then-closed
+returns-then-closed c =
     let left = c.if-not-left_side.false in
-    let right = not-false _ c.if-not-r.false in
-    rw c.if-r.true at
-    (by_variables _ _ _ _ _ (sym c.left_side.ensures.told ∙ left) (sym c.right_side-r.ensures.told ∙ right) (omega arith) (omega arith)
-    c.if-nodes-left-ge-FIRST_VARIABLE.false _ _ (c.right_side-r.ensures.all_told right) c.left_side.ensures.long (c.left_side.ensures.variables left))
+    rw c.if-closed.true at
+    (by_variables _ _ _ _ _ (sym c.left_side.ensures.told ∙ left) c.in-Some.ensures.0 (omega arith) (omega arith)
+    c.if-nodes-left-ge-FIRST_VARIABLE.false _ _ c.in-Some.ensures.1 c.left_side.ensures.long (c.left_side.ensures.variables left))
 
 pub returns : goal.returns
 returns c =
     let left = c.if-not-left_side.false in
-    let right = not-false _ c.if-not-r.false in
-    rw c.if-r.false at
-    (by_variables _ _ _ _ _ (sym c.left_side.ensures.told ∙ left) (sym c.right_side-r.ensures.told ∙ right) (omega arith) (omega arith)
-    c.if-nodes-left-ge-FIRST_VARIABLE.false _ _ (c.right_side-r.ensures.all_told right) c.left_side.ensures.long (c.left_side.ensures.variables left))
+    rw c.if-closed.false at
+    (by_variables _ _ _ _ _ (sym c.left_side.ensures.told ∙ left) c.in-Some.ensures.0 (omega arith) (omega arith)
+    c.if-nodes-left-ge-FIRST_VARIABLE.false _ _ c.in-Some.ensures.1 c.left_side.ensures.long (c.left_side.ensures.variables left))

@@ -31,13 +31,13 @@ pub returns-then-wanted-eq0 : goal.returns-then-wanted-eq0
 returns-then-wanted-eq0 c =
     let l = c.loop-i in
     record {
-      told = too_many _ _ _ _ _ _ l.invariant.0 c.loop-i-test.true (omega arith) c.if-wanted-eq0.true;
+      told = too_many _ _ _ _ _ _ l.invariant.0 (omega arith) (omega arith) c.if-wanted-eq0.true;
       long = l.invariant.1.0;
       variables = λ e. absurd (false≢true e);
     }
 
 pub overflow_cast-c : goal.overflow_cast-c
-overflow_cast-c c = omega (arith, c.shared_slice_known-1.given c.loop-i.i)
+overflow_cast-c c = omega (arith, c.type_inv.nodes c.loop-i.i)
 
 pub overflow_cast-wanted : goal.overflow_cast-wanted
 overflow_cast-wanted c =
@@ -56,8 +56,8 @@ loop-i-preserved c =
     let l = c.loop-i in
     let n = c.args.nodes.now in
     let inside : l.i < length n = omega arith in
-    let symbol = symbol_read _ _ _ _ _ _ l.invariant.0 c.loop-i-test.true (omega arith) c.if-wanted-eq0.false in
-    let variable = variable_read _ _ _ _ _ _ l.invariant.0 c.loop-i-test.true (omega arith) c.if-wanted-eq0.false in
+    let symbol = symbol_read _ _ _ _ _ _ l.invariant.0 (omega arith) (omega arith) c.if-wanted-eq0.false in
+    let variable = variable_read _ _ _ _ _ _ l.invariant.0 (omega arith) (omega arith) c.if-wanted-eq0.false in
     let same = at_other _ _ _ _ l.invariant.0.0 inside l.invariant.1 in
     ⊎_elim
     (λ w. rw (w.seen-is, w.wanted-is) (symbol w.if-c-lt-MOST_SYMBOLS.true (omega (arith, w.shared_slice_known-then-c-lt-MOST_SYMBOLS-1.given (get_or n l.i 0))), same (λ v h e. omega (arith, w))))
@@ -70,4 +70,4 @@ pub returns : goal.returns
 returns c =
     let l = c.loop-i in
     let z : l.i ≡ c.args.to = omega arith in
-    record { told = all_read _ _ _ _ _ _ l.invariant.0 c.loop-i-test.false; long = l.invariant.1.0; variables = λ e. rw z at l.invariant.1.1 }
+    record { told = all_read _ _ _ _ _ _ l.invariant.0 (omega arith); long = l.invariant.1.0; variables = λ e. rw z at l.invariant.1.1 }

@@ -3,7 +3,7 @@
 use mathlib.Core.Path.{◌≡◌}
 use mathlib.Core.Bool.{Bool}
 use mathlib.Core.List.{List}
-use Prim.Native.Nat.{ℕ, ◌-◌}
+use Prim.Native.Nat.{ℕ}
 use lib.ListN.{length}
 use Rattle.terms.specs.Kept.{part}
 use Rattle.pack_reader.specs.Stored.{SeenIn}
@@ -15,6 +15,3 @@ Flags ns from i sn = (length sn ≡ 16) × SeenIn (part ns from i) sn
 
 abbrev pub invariant-loop-i : goal.invariant-loop-i
 invariant-loop-i l = Wanting l.arities l.nodes l.from l.to l.wanted l.i × Flags l.nodes l.from l.i l.seen
-
-abbrev pub decreases-loop-i : goal.decreases-loop-i
-decreases-loop-i l = l.to - l.i

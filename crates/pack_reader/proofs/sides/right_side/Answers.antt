@@ -2,11 +2,12 @@
 -- exactly if the whole is for one, and has only variables seen, with the nodes passed, exactly if the whole has.
 use mathlib.Core.Path.{◌≡◌, refl, sym, ◌∙◌}
 use mathlib.Core.Logic.{⊎_elim}
-use mathlib.Core.Bool.{Bool, true, false, false≢true, and-false, and-true}
+use mathlib.Core.Bool.{Bool, true, false, and-false, and-true}
 use mathlib.Core.List.{List}
 use Prim.Native.Nat.{ℕ, ◌+◌, ◌-◌, ◌≤◌, ◌<◌}
 use native.Mathlib.Omega.{arith}
 use lib.ListN.{length, get_or}
+use borrow.Author.Tests.{eq-eqb, ne_eqb}
 use Rattle.terms.specs.Kept.{part}
 use Rattle.terms.proofs.Parts.{part_none, part_more}
 use Rattle.pack_reader.specs.Stored.{all_seen}
@@ -43,15 +44,10 @@ pub loop-i-init : goal.loop-i-init
 loop-i-init c = ((omega arith, omega arith, omega arith, refl), refl)
 
 pub returns-then-wanted-eq0 : goal.returns-then-wanted-eq0
-returns-then-wanted-eq0 c =
-    let l = c.loop-i in
-    record {
-      told = too_many _ _ _ _ _ _ l.invariant.0 c.loop-i-test.true (omega arith) c.if-wanted-eq0.true;
-      all_told = λ e. absurd (false≢true e);
-    }
+returns-then-wanted-eq0 c = sym (too_many _ _ _ _ _ _ c.loop-i.invariant.0 (omega arith) (omega arith) c.if-wanted-eq0.true)
 
 pub overflow_cast-c : goal.overflow_cast-c
-overflow_cast-c c = omega (arith, c.shared_slice_known-1.given c.loop-i.i)
+overflow_cast-c c = omega (arith, c.type_inv.nodes c.loop-i.i)
 
 pub overflow_cast-wanted : goal.overflow_cast-wanted
 overflow_cast-wanted c =
@@ -70,21 +66,23 @@ loop-i-preserved c =
     let l = c.loop-i in
     let a = c.args in
     let inside : a.to ≤ length a.nodes.now = omega arith in
-    let symbol = symbol_read _ _ _ _ _ _ l.invariant.0 c.loop-i-test.true inside c.if-wanted-eq0.false in
-    let variable = variable_read _ _ _ _ _ _ l.invariant.0 c.loop-i-test.true inside c.if-wanted-eq0.false in
+    let symbol = symbol_read _ _ _ _ _ _ l.invariant.0 (omega arith) inside c.if-wanted-eq0.false in
+    let variable = variable_read _ _ _ _ _ _ l.invariant.0 (omega arith) inside c.if-wanted-eq0.false in
     ⊎_elim
-    (λ w. rw (w.wanted-is, w.closed-is) (symbol w.if-c-lt-MOST_SYMBOLS.true (omega (arith, w.shared_slice_known-then-c-lt-MOST_SYMBOLS-1.given (get_or a.nodes.now l.i 0))), at_symbol _ _ _ _ _ l.closed l.invariant.1 c.loop-i-test.true inside w.if-c-lt-MOST_SYMBOLS.true))
+    (λ w. rw (w.wanted-is, w.closed-is) (symbol w.if-c-lt-MOST_SYMBOLS.true (omega (arith, w.shared_slice_known-then-c-lt-MOST_SYMBOLS-1.given (get_or a.nodes.now l.i 0))), at_symbol _ _ _ _ _ l.closed l.invariant.1 (omega arith) inside w.if-c-lt-MOST_SYMBOLS.true))
     (⊎_elim
-    (λ w. rw (w.wanted-is, w.closed-is) (variable w.if-c-lt-MOST_SYMBOLS.false, at_neither _ _ _ _ _ l.closed l.invariant.1 c.loop-i-test.true inside (omega arith) w.if-c-ge-PAST_VARIABLES.true))
+    (λ w. rw (w.wanted-is, w.closed-is) (variable w.if-c-lt-MOST_SYMBOLS.false, at_neither _ _ _ _ _ l.closed l.invariant.1 (omega arith) inside (omega arith) w.if-c-ge-PAST_VARIABLES.true))
     (⊎_elim
-    (λ w. rw (w.wanted-is, w.closed-is) (variable w.if-c-lt-MOST_SYMBOLS.false, at_unflagged _ _ _ _ _ l.closed l.invariant.1 c.loop-i-test.true inside w.if-c-lt-MOST_SYMBOLS.false (w.if-not-seen-c.true)))
-    (λ w. rw (w.wanted-is, w.closed-is) (variable w.if-c-lt-MOST_SYMBOLS.false, at_flagged _ _ _ _ _ l.closed l.invariant.1 c.loop-i-test.true inside w.if-c-lt-MOST_SYMBOLS.false (w.if-not-seen-c.false)))))
+    (λ w. rw (w.wanted-is, w.closed-is) (variable w.if-c-lt-MOST_SYMBOLS.false, at_unflagged _ _ _ _ _ l.closed l.invariant.1 (omega arith) inside w.if-c-lt-MOST_SYMBOLS.false (w.if-not-seen-c.true)))
+    (λ w. rw (w.wanted-is, w.closed-is) (variable w.if-c-lt-MOST_SYMBOLS.false, at_flagged _ _ _ _ _ l.closed l.invariant.1 (omega arith) inside w.if-c-lt-MOST_SYMBOLS.false (w.if-not-seen-c.false)))))
     c.if-c-lt-MOST_SYMBOLS.branch-raw
+
+pub returns-then-wanted-eq0-2 : goal.returns-then-wanted-eq0-2
+returns-then-wanted-eq0-2 c =
+    let l = c.loop-i in
+    (sym (all_read _ _ _ _ _ _ l.invariant.0 (omega arith)) ∙ eq-eqb _ _ c.if-wanted-eq0-2.true, all_passed _ _ _ _ _ l.closed l.invariant.1 (omega arith))
 
 pub returns : goal.returns
 returns c =
     let l = c.loop-i in
-    record {
-      told = all_read _ _ _ _ _ _ l.invariant.0 c.loop-i-test.false;
-      all_told = λ e. all_passed _ _ _ _ _ l.closed l.invariant.1 c.loop-i-test.false;
-    }
+    sym (all_read _ _ _ _ _ _ l.invariant.0 (omega arith)) ∙ ne_eqb _ _ c.if-wanted-eq0-2.false

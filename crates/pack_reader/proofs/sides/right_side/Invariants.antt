@@ -3,7 +3,7 @@
 use mathlib.Core.Path.{◌≡◌}
 use mathlib.Core.Bool.{Bool, ◌&&◌}
 use mathlib.Core.List.{List}
-use Prim.Native.Nat.{ℕ, ◌-◌}
+use Prim.Native.Nat.{ℕ}
 use Rattle.terms.specs.Kept.{part}
 use Rattle.pack_reader.specs.Stored.{all_seen}
 use Rattle.pack_reader.proofs.OneSide.{Wanting}
@@ -14,6 +14,3 @@ Closed sn ns from to i b = (b && all_seen sn (part ns i to)) ≡ all_seen sn (pa
 
 abbrev pub invariant-loop-i : goal.invariant-loop-i
 invariant-loop-i l = Wanting l.arities l.nodes l.from l.to l.wanted l.i × Closed l.seen l.nodes l.from l.to l.i l.closed
-
-abbrev pub decreases-loop-i : goal.decreases-loop-i
-decreases-loop-i l = l.to - l.i

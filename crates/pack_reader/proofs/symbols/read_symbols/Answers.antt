@@ -9,16 +9,17 @@ use native.Mathlib.Numerals.{add-one}
 use lib.ListN.{length, take, drop, set, length-set, drop_of_length-le}
 use lib.Seq.{take-suc-set, length-take-le}
 use Rattle.records.specs.declared.Record.{Record}
-use Rattle.records.specs.declared.Answer.{Answer}
-use Rattle.records.specs.declared.Answer.TheVariants.{Passed}
-use Rattle.records.specs.declared.Wanted.TheVariants.{Found, Stray}
-use Rattle.records.specs.Answers.{answer_outcome}
+use Rattle.std.specs.Prelude.{Result, Ok}
+use Rattle.records.specs.declared.Refusal.{Refusal}
+use Rattle.std.specs.Prelude.{Some, None}
+use Rattle.records.specs.Answers.{outcome_of}
 use Rattle.records.specs.Outcomes.{Outcome, refused, passed, after}
 use Rattle.records.specs.Records.{all_records}
 use Rattle.records.specs.Order.{s_symbol, index, may_follow}
+use Rattle.records.specs.Rows.{row_number}
+use Rattle.records.proofs.Outcomes.{handed_on}
 use Rattle.records.specs.Wanted.{wanted_at}
 use Rattle.records.proofs.Bytes.{drop_records, length_of_records}
-use Rattle.packs.specs.PackReading.{most_symbols, most_arity}
 use Rattle.pack_reader.specs.Stored.{arity_outcome, symbol_steps, SymbolsRead}
 use Rattle.pack_reader.proofs.Wanted.{found_at, stray_at}
 use Rattle.pack_reader.proofs.SymbolSteps.{arity_small, symbols_stray, symbols_end, symbols_read, with_arities, arities_none, arities_more}
@@ -32,10 +33,10 @@ unfolding symbol_steps
 none_stands pack last i k = rw (drop_of_length-le (all_records pack) {i = i} (omega (arith, length_of_records pack)))
 
 module _ (pack : List ℕ) (last i : ℕ) (k : i < length pack / 8) where
-  stray : wanted_at pack (8 * i) last 0 false ≡ Stray → steps_left pack last i ≡ refused 2
+  stray : wanted_at pack (8 * i) last 0 false ≡ None → steps_left pack last i ≡ refused 2
   stray w = rw (drop_records pack i k) (symbols_stray last i _ _ (stray_at pack (8 * i) last 0 false w))
 
-  module _ {r : Record} (w : wanted_at pack (8 * i) last 0 false ≡ Found r) where
+  module _ {r : Record} (w : wanted_at pack (8 * i) last 0 false ≡ Some r) where
     follows : may_follow last (index r.kind) 0 false ≡ true
     follows = let f = found_at pack (8 * i) last 0 false w in rw f.1 f.0
 
@@ -54,12 +55,12 @@ module _ (pack : List ℕ) (last i : ℕ) (k : i < length pack / 8) where
 
 module _ (pack arities : List ℕ) (last i : ℕ) (s : GoesOn pack arities last i) where
   -- a refusal met here is the answer
-  refuses : {m : ℕ} (x : Answer) → answer_outcome x ≡ refused m → steps_left pack last i ≡ refused m
+  refuses : {m : ℕ} (x : Result ℕ Refusal) → outcome_of x ≡ refused m → steps_left pack last i ≡ refused m
       → SymbolsRead (symbol_steps 0 0 (all_records pack)) x arities
   unfolding SymbolsRead
   refuses x a e = rw (← s, e) a
 
-  ends : i ≤ length arities → steps_left pack last i ≡ passed [] → SymbolsRead (symbol_steps 0 0 (all_records pack)) (Passed i) arities
+  ends : i ≤ length arities → steps_left pack last i ≡ passed [] → SymbolsRead (symbol_steps 0 0 (all_records pack)) (Ok i) arities
   unfolding SymbolsRead with_arities
   ends h e = rw (← s, e, append-nil (take i arities), length-take-le i arities h) (refl, refl)
 
@@ -69,59 +70,38 @@ module _ (pack arities : List ℕ) (last i : ℕ) (s : GoesOn pack arities last 
       rw kept (sym (arities_more (take i arities) b (steps_left pack 1 (i + 1))) ∙ ap (λ (o : Outcome (List ℕ)). after o (with_arities (take i arities))) (sym e) ∙ s)
 
 pub loop-i-init : goal.loop-i-init
-loop-i-init c =
-    (omega arith, omega arith, omega arith, omega arith, arities_none (symbol_steps 0 0 (all_records c.args.pack.now)))
+loop-i-init c = (omega arith, omega arith, arities_none (symbol_steps 0 0 (all_records c.args.pack.now)))
 
 pub returns-in_default : goal.returns-in_default
 returns-in_default c =
-    let strayed : let l = c.loop-i in
-    wanted_at c.args.pack.now (8 * l.i) l.last 0 false ≡ Stray = sym c.read_wanted.ensures ∙ c.in_default.is in
     let l = c.loop-i in
-    refuses _ _ l.last l.i l.invariant.4 _ refl (stray _ l.last l.i c.loop-i-test.true strayed)
+    refuses _ _ _ l.i l.invariant.2 _ refl (stray _ (row_number l.last) l.i (omega arith) (sym c.read_wanted.ensures ∙ c.in_default.is))
 
 pub returns-then-r-ne83 : goal.returns-then-r-ne83
 returns-then-r-ne83 c =
-    let found : let l = c.loop-i in
-    wanted_at c.args.pack.now (8 * l.i) l.last 0 false ≡ Found c.in-Found.r = sym c.read_wanted.ensures ∙ c.in-Found.is in
     let l = c.loop-i in
-    ends _ _ l.last l.i l.invariant.4 (omega arith) (no_symbol _ l.last l.i c.loop-i-test.true found c.if-r-ne83.true)
+    ends _ _ _ l.i l.invariant.2 (omega arith) (no_symbol _ (row_number l.last) l.i (omega arith) (sym c.read_wanted.ensures ∙ c.in-Some.is) c.if-r-ne83.true)
 
-pub returns-in-Refused : goal.returns-in-Refused
-returns-in-Refused c =
-    let found : let l = c.loop-i in
-    wanted_at c.args.pack.now (8 * l.i) l.last 0 false ≡ Found c.in-Found.r = sym c.read_wanted.ensures ∙ c.in-Found.is in
+pub returns-in_err-arities : goal.returns-in_err-arities
+returns-in_err-arities c =
     let l = c.loop-i in
-    refuses _ _ l.last l.i l.invariant.4 _ refl
-    (arity_refused _ l.last l.i c.loop-i-test.true found c.if-r-ne83.false
-    (sym (ap answer_outcome c.in-Refused.is) ∙ c.arity_of.ensures))
-
-pub overflow_cast-arities : goal.overflow_cast-arities
-overflow_cast-arities c =
-    let arity : passed c.in-Passed.b ≡ arity_outcome c.loop-i.i c.in-Found.r = sym (ap answer_outcome c.in-Passed.is) ∙ c.arity_of.ensures in
-    let small : (c.loop-i.i < most_symbols) × (c.in-Passed.b ≤ most_arity) = arity_small _ _ _ (sym arity) in
-    let s = small in omega arith
+    refuses _ _ _ l.i l.invariant.2 _ (ap outcome_of (handed_on c.from_residual.result c.from_residual.ensures.1))
+    (arity_refused _ (row_number l.last) l.i (omega arith) (sym c.read_wanted.ensures ∙ c.in-Some.is) c.if-r-ne83.false c.in_err-arities.ensures)
 
 pub bounds-arities-i : goal.bounds-arities-i
-bounds-arities-i c =
-    let arity : passed c.in-Passed.b ≡ arity_outcome c.loop-i.i c.in-Found.r = sym (ap answer_outcome c.in-Passed.is) ∙ c.arity_of.ensures in
-    let small : (c.loop-i.i < most_symbols) × (c.in-Passed.b ≤ most_arity) = arity_small _ _ _ (sym arity) in
-    let s = small in omega arith
+bounds-arities-i c = let s = arity_small _ _ _ (sym c.in_ok-arities.ensures) in omega arith
 
 pub loop-i-preserved : goal.loop-i-preserved
 loop-i-preserved c =
-    let found : let l = c.loop-i in
-    wanted_at c.args.pack.now (8 * l.i) l.last 0 false ≡ Found c.in-Found.r = sym c.read_wanted.ensures ∙ c.in-Found.is in
-    let arity : passed c.in-Passed.b ≡ arity_outcome c.loop-i.i c.in-Found.r = sym (ap answer_outcome c.in-Passed.is) ∙ c.arity_of.ensures in
-    let small : (c.loop-i.i < most_symbols) × (c.in-Passed.b ≤ most_arity) = arity_small _ _ _ (sym arity) in
     let l = c.loop-i in
-    let s = small in (
-      omega arith,
-      omega arith,
+    let s = arity_small _ _ _ (sym c.in_ok-arities.ensures) in (
       omega arith,
       simp length-set (omega arith),
-      more _ _ l.last l.i l.invariant.4 _ (omega arith) (arity_read _ l.last l.i c.loop-i-test.true found c.if-r-ne83.false arity),
+      more _ _ _ l.i l.invariant.2 _ (omega arith) (arity_read _ (row_number l.last) l.i (omega arith) (sym c.read_wanted.ensures ∙ c.in-Some.is) c.if-r-ne83.false c.in_ok-arities.ensures),
     )
 
 pub returns : goal.returns
 returns c =
-    let l = c.loop-i in ends _ _ l.last l.i l.invariant.4 (omega arith) (none_stands _ l.last l.i c.loop-i-test.false)
+    let l = c.loop-i in
+    let e : l.i ≡ length c.args.pack.now / 8 = omega arith in
+    rw e at (ends _ _ _ l.i l.invariant.2 (omega arith) (none_stands _ (row_number l.last) l.i (omega arith)))

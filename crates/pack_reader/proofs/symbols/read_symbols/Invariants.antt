@@ -2,11 +2,11 @@
 -- kept so far before, are the steps of all.
 use mathlib.Core.Path.{◌≡◌}
 use mathlib.Core.List.{List}
-use Prim.Native.Nat.{ℕ, ◌-◌, ◌/◌, ◌≤◌, ◌<◌}
+use Prim.Native.Nat.{ℕ, ◌≤◌}
 use lib.ListN.{length, take, drop}
 use Rattle.records.specs.Outcomes.{Outcome, after}
 use Rattle.records.specs.Records.{all_records}
-use Rattle.records.specs.Order.{rows}
+use Rattle.records.specs.Rows.{row_number}
 use Rattle.pack_reader.specs.Stored.{symbol_steps}
 use Rattle.pack_reader.proofs.SymbolSteps.{with_arities}
 use Rattle.pack_reader.proofs.symbols.read_symbols.Given as goal
@@ -21,8 +21,4 @@ abbrev pub GoesOn : (pack arities : List ℕ) (last i : ℕ) → Type 0
 GoesOn pack arities last i = after (steps_left pack last i) (with_arities (take i arities)) ≡ symbol_steps 0 0 (all_records pack)
 
 abbrev pub invariant-loop-i : goal.invariant-loop-i
-invariant-loop-i l =
-    (l.i ≤ length l.pack / 8) × (l.i ≤ 64) × (l.last < rows) × (length l.arities ≡ 64) × GoesOn l.pack l.arities l.last l.i
-
-abbrev pub decreases-loop-i : goal.decreases-loop-i
-decreases-loop-i l = length l.pack / 8 - l.i
+invariant-loop-i l = (l.i ≤ 64) × (length l.arities ≡ 64) × GoesOn l.pack l.arities (row_number l.last) l.i

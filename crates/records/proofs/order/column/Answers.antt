@@ -1,15 +1,13 @@
 -- `records::order::column` meets its contract: a letter's column is its place in the alphabet.
 use mathlib.Core.Path.{◌≡◌, sym}
-use mathlib.Core.Logic.{◌⊎◌, inl, inr}
+use mathlib.Core.Logic.{◌⊎◌}
 use Prim.Native.Nat.{ℕ, ◌+◌, ◌-◌, ◌≤◌, ◌<◌}
 use native.Mathlib.Omega.{arith}
-use borrow.Author.Rules.{rules}
 use borrow.Author.Tests.{ne_eqb}
 use Rattle.records.specs.Order.{index}
 use Rattle.records.specs.Rows.{column_at}
 use Rattle.records.proofs.Table.{no_kind}
-use Rattle.records.proofs.order.column.Statement.{statement}
-use Rattle.records.proofs.order.column.Tie as tie
+use Rattle.records.proofs.order.column.Goals as goal
 
 other : (kind : ℕ) → ◌⊎◌ (kind < 65) (91 ≤ kind) → column_at 28 ≡ index kind
 unfolding column_at index
@@ -21,11 +19,9 @@ letter kind h l =
     let e : 65 + (kind - 65) ≡ kind = omega arith in
     rw (ne_eqb (kind - 65) 26 (λ z. omega arith), ne_eqb (kind - 65) 27 (λ z. omega arith), e)
 
-pub column_spec : {M : Type 1} → statement M
-column_spec =
-    tie.close
-    (tie.spec
-    (λ c. search rules)
-    (λ c. (omega arith, letter _ c.in-65-to-90.if-kind-lt65-own.false c.in-65-to-90.if-kind-lt91-own.true))
-    (λ c. (omega arith, other _ (inl c.in_default.if-kind-lt65-own.true)))
-    (λ c. (omega arith, other _ (inr c.in_default.if-kind-lt91-own.false))))
+pub returns-then-is_ascii_uppercase : goal.returns-then-is_ascii_uppercase
+returns-then-is_ascii_uppercase c =
+    let k = c.if-is_ascii_uppercase.ensures.cases in (omega arith, rw c.from.ensures (letter _ k.0 (omega arith)))
+
+pub returns : goal.returns
+returns c = let k = c.if-is_ascii_uppercase.ensures.cases in (omega arith, other _ k)

@@ -3,14 +3,12 @@ use mathlib.Core.Path.{◌≡◌, refl, sym, ap, ◌∙◌}
 use mathlib.Core.Bool.{Bool, true, false}
 use Prim.Native.Nat.{ℕ, ◌/◌, ◌%◌, ◌^◌, ◌≤◌, ◌<◌}
 use native.Mathlib.Omega.{arith}
-use borrow.Author.Rules.{rules}
 use lib.Dec.{eqb}
 use Rattle.records.specs.Order.{may_follow}
 use Rattle.records.specs.declared.order.Row.{Row}
 use Rattle.records.specs.Rows.{column_at, bit, RowSays}
 use Rattle.records.proofs.Table.{while_due_same}
-use Rattle.records.proofs.order.may_follow.Statement.{statement}
-use Rattle.records.proofs.order.may_follow.Tie as tie
+use Rattle.records.proofs.order.may_follow.Goals as goal
 
 module _ (before next due : ℕ) (weighted : Bool) where
   abbrev Answers : Bool → Type 0
@@ -35,20 +33,11 @@ module _ (before next due : ℕ) (weighted : Bool) where
     after_due_weighted : r ≡ eqb (row.weighted / 2 ^ next % 2) 1 → due ≡ 0 → weighted ≡ true → Answers r
     after_due_weighted e d w = by_bit (row.weighted / 2 ^ next % 2) e (rw (d, w) (s.weighted next h))
 
-pub may_follow_spec : {M : Type 1} → statement M
-may_follow_spec =
-    tie.close
-    (tie.spec
-    (λ c κs. search rules)
-    (λ c κs. search rules)
-    (λ c.
-    let k = c.before.before in
-    while_due _ _ _ _ k.row_of-r.ensures k.requires.1 c.has.ensures (omega (arith, c.if-due-ne0.true)))
-    (λ c κs. search rules)
-    (λ c.
-    let k = c.before.before.before in
-    after_due_weighted _ _ _ _ k.row_of-r.ensures k.requires.1 c.has-then-weighted.ensures c.if-due-ne0.false c.if-weighted.true)
-    (λ c κs. search rules)
-    (λ c.
-    let k = c.before.before.before in
-    after_due _ _ _ _ k.row_of-r.ensures k.requires.1 c.has-2.ensures c.if-due-ne0.false c.if-weighted.false))
+pub returns-then-due-ne0 : goal.returns-then-due-ne0
+returns-then-due-ne0 c = while_due _ _ _ _ c.row_of-r.ensures c.requires c.has.ensures (omega (arith, c.if-due-ne0.true))
+
+pub returns-then-weighted : goal.returns-then-weighted
+returns-then-weighted c = after_due_weighted _ _ _ _ c.row_of-r.ensures c.requires c.has-then-weighted.ensures c.if-due-ne0.false c.if-weighted.true
+
+pub returns : goal.returns
+returns c = after_due _ _ _ _ c.row_of-r.ensures c.requires c.has-2.ensures c.if-due-ne0.false c.if-weighted.false

@@ -1,0 +1,8 @@
+-- `records::fields` meets its contract, field by field.
+use mathlib.Core.Path.{refl}
+use Rattle.records.specs.Records.{fields}
+use Rattle.records.proofs.fields.Goals as goal
+
+pub returns : goal.returns
+unfolding fields
+returns c = refl
