@@ -9,6 +9,7 @@ use native.Mathlib.Omega.{arith}
 use lib.Dec.{eqb, eqb-suc-zero}
 use lib.ListN.{length, length-append}
 use borrow.Author.Tests.{eq-eqb, ne_eqb}
+use Rattle.records.specs.Rows.{row_number}
 use Rattle.records.specs.declared.Refusal.{Refusal}
 use Rattle.records.specs.Outcomes.{refused, passed}
 use Rattle.records.specs.Answers.{number_of}
@@ -17,7 +18,8 @@ use Rattle.pairs.specs.Listing.{a_pair}
 use Rattle.polynomials.specs.Polynomials.{Weight, Weighting}
 use Rattle.polynomials.specs.Judging.{is_none}
 use Rattle.certificate_reader.specs.declared.State.{State}
-use Rattle.certificate_reader.specs.declared.Stepped.TheVariants.{On, Refused as Stopped}
+use Rattle.records.specs.declared.order.Before.TheVariants.{StartOfComponents, Component as Component', Pair as Pair', Weight as Weight', Marked as Marked', Weighting as Weighting'}
+use Rattle.std.specs.Prelude.{Ok, Err}
 use Rattle.certificates.specs.Components.{Component, no_weighting, first_weighting, with_pair, with_weighting, last_weighting, on_last, add_weight, add_marked, with_weight, with_marked}
 use Rattle.certificates.specs.CertificateReading.{CertificateReading, going_on, with_begun, components_of, has_weighting}
 use Rattle.certificate_reader.specs.Working.{key, Tells, begun_pairs, begun_weightings, SoundState, Mirrors, StepsAs, GoesOn}
@@ -28,31 +30,31 @@ use Rattle.certificate_reader.proofs.Keys.{tells_none, tells_more}
 -- WHAT ONE STEP ANSWERS
 
 -- a refusal is no next state
-pub no_state : (s : State) (y : Refusal) → GoesOn s (Stopped y)
+pub no_state : (s : State) (y : Refusal) → GoesOn s (Err y)
 unfolding GoesOn
 no_state s y u e = let z : ◌≡◌ {A = ℕ} 0 1 = cc in absurd (omega arith)
 
-next_state : (s t : State) → SoundState t → t.number ≤ s.number + 1 → t.begun ≤ s.begun + 1 → GoesOn s (On t)
+next_state : (s t : State) → SoundState t → t.number ≤ s.number + 1 → t.begun ≤ s.begun + 1 → GoesOn s (Ok t)
 unfolding GoesOn
 next_state s t sound few few_begun u e =
     let same : t ≡ u = cc in
     subst (λ (v : State). SoundState v × (v.number ≤ s.number + 1) × (v.begun ≤ s.begun + 1)) same (sound, few, few_begun)
 
 -- up to a component's pairs a state is sound if pairs are due after C
-pairs_sound : (t : State) → 5 ≤ t.last → t.last ≤ 7 → (t.last ≡ 6 → 1 ≤ t.due) → SoundState t
+pairs_sound : (t : State) → 5 ≤ (row_number t.last) → (row_number t.last) ≤ 7 → ((row_number t.last) ≡ 6 → 1 ≤ t.due) → SoundState t
 pairs_sound t low high due =
     record { row_low = low; row_high = omega arith; after_C = due; none_due = λ h. absurd (omega arith); has_one = λ h. absurd (omega arith) }
 
 -- the next state after C, after P, and after W, M and L
-pub after_component : (s t : State) → t.last ≡ 6 → 1 ≤ t.due → t.number ≡ s.number + 1 → t.begun ≤ 1 → GoesOn s (On t)
+pub after_component : (s t : State) → (row_number t.last) ≡ 6 → 1 ≤ t.due → t.number ≡ s.number + 1 → t.begun ≤ 1 → GoesOn s (Ok t)
 after_component s t row due few first = next_state s t (pairs_sound t (omega arith) (omega arith) (λ h. due)) (omega arith) (omega arith)
 
-pub after_pair : (s t : State) → t.last ≡ 7 → t.number ≡ s.number → t.begun ≡ s.begun → GoesOn s (On t)
+pub after_pair : (s t : State) → (row_number t.last) ≡ 7 → t.number ≡ s.number → t.begun ≡ s.begun → GoesOn s (Ok t)
 after_pair s t row few begun =
     next_state s t (pairs_sound t (omega arith) (omega arith) (λ h. absurd (omega arith))) (omega arith) (omega arith)
 
-pub after_weight : (s t : State) → 8 ≤ t.last → t.last ≤ 10 → t.due ≡ 0 → t.weighted ≡ true → t.number ≡ s.number → t.begun ≤ s.begun + 1
-    → GoesOn s (On t)
+pub after_weight : (s t : State) → 8 ≤ (row_number t.last) → (row_number t.last) ≤ 10 → t.due ≡ 0 → t.weighted ≡ true → t.number ≡ s.number → t.begun ≤ s.begun + 1
+    → GoesOn s (Ok t)
 after_weight s t low high due has few begun =
     next_state s t
     (record { row_low = omega arith; row_high = high; after_C = λ h. absurd (omega arith); none_due = λ h. due; has_one = λ h. has })
@@ -60,20 +62,20 @@ after_weight s t low high due has few begun =
     begun
 
 -- a refusal, and a state that mirrors what was read, as answers
-pub stops_with : (n : ℕ) (y : Refusal) → number_of y ≡ n → StepsAs (refused n) (Stopped y)
+pub stops_with : (n : ℕ) (y : Refusal) → number_of y ≡ n → StepsAs (refused n) (Err y)
 unfolding StepsAs
 stops_with n y e = (y, refl, e)
 
-pub stops : (y : Refusal) → StepsAs (refused (number_of y)) (Stopped y)
+pub stops : (y : Refusal) → StepsAs (refused (number_of y)) (Err y)
 stops y = stops_with _ y refl
 
-pub answers : (x : CertificateReading) (s : State) → Mirrors s x → StepsAs (passed x) (On s)
+pub answers : (x : CertificateReading) (s : State) → Mirrors s x → StepsAs (passed x) (Ok s)
 unfolding StepsAs
 answers x s m = (s, refl, m)
 
 -- WHAT MAY FOLLOW is what may follow the record read last
 pub may_follow_mirrored : (s : State) (x : CertificateReading) → Mirrors s x → (next : ℕ) →
-    may_follow x.last next x.due (has_weighting x.begun) ≡ may_follow s.last next s.due s.weighted
+    may_follow x.last next x.due (has_weighting x.begun) ≡ may_follow (row_number s.last) next s.due s.weighted
 may_follow_mirrored s x m next = rw (← m.last_is, ← m.due_is, ← m.weighted_is)
 
 -- and so is whether a weighting is missing
@@ -86,7 +88,7 @@ some_missing s x m e = ne_eqb x.more 0 (λ z. e (m.more_is ∙ z))
 -- AT THE START, AND AFTER C
 
 abbrev pub start_state : State
-start_state = record { last = 5; number = 0; due = 0; weighted = false; more = 0; begun = 0; pair_key = 0; weight_key = 0; marked_key = 0 }
+start_state = record { last = StartOfComponents; number = 0; due = 0; weighted = false; more = 0; begun = 0; pair_key = 0; weight_key = 0; marked_key = 0 }
 
 pub start_sound : SoundState start_state
 start_sound = pairs_sound start_state (omega arith) (omega arith) (λ h. absurd (omega arith))
@@ -129,7 +131,7 @@ first_few zero = omega arith
 first_few (suc b) = omega arith
 
 pub component_mirrored : (s : State) (x : CertificateReading) (b n k : ℕ) → k ≡ length (first_weighting b) → Mirrors s x →
-    Mirrors (record { last = 6; number = s.number + 1; due = n; weighted = not (eqb b 0); more = b - k; begun = k; pair_key = 0; weight_key = 0; marked_key = 0 })
+    Mirrors (record { last = Component'; number = s.number + 1; due = n; weighted = not (eqb b 0); more = b - k; begun = k; pair_key = 0; weight_key = 0; marked_key = 0 })
     (going_on 6 (components_of x) (begun_with b) n (b - 1))
 unfolding components_of with_begun has_weighting begun_pairs begun_weightings
 component_mirrored s x b n k first m =
@@ -200,7 +202,7 @@ module _ (s : State) (x : CertificateReading) (c : Component) (is : x.begun ≡ 
 
   pub weighting_mirrored : s.weighted ≡ true →
       Mirrors
-      (record { last = 10; number = s.number; due = 0; weighted = s.weighted; more = s.more - 1; begun = s.begun + 1; pair_key = s.pair_key; weight_key = 0; marked_key = 0 })
+      (record { last = Weighting'; number = s.number; due = 0; weighted = s.weighted; more = s.more - 1; begun = s.begun + 1; pair_key = s.pair_key; weight_key = 0; marked_key = 0 })
       (going_on 10 x.done (with_weighting c) 0 (x.more - 1))
   unfolding components_of with_begun has_weighting begun_pairs begun_weightings with_weighting
   weighting_mirrored has =
@@ -221,7 +223,7 @@ module _ (s : State) (x : CertificateReading) (c : Component) (is : x.begun ≡ 
   module _ (k a b : ℕ) (k_is : k ≡ key a b) (small : b < 65536) where
     pub pair_mirrored :
         Mirrors
-        (record { last = 7; number = s.number; due = s.due - 1; weighted = s.weighted; more = s.more; begun = s.begun; pair_key = k; weight_key = s.weight_key; marked_key = s.marked_key })
+        (record { last = Pair'; number = s.number; due = s.due - 1; weighted = s.weighted; more = s.more; begun = s.begun; pair_key = k; weight_key = s.weight_key; marked_key = s.marked_key })
         (going_on 7 x.done (with_pair c (a_pair a b)) (x.due - 1) x.more)
     unfolding components_of with_begun has_weighting begun_pairs begun_weightings with_pair
     pair_mirrored =
@@ -253,7 +255,7 @@ module _ (s : State) (x : CertificateReading) (c : Component) (is : x.begun ≡ 
 
       pub weight_mirrored :
           Mirrors
-          (record { last = 8; number = s.number; due = 0; weighted = s.weighted; more = s.more; begun = s.begun; pair_key = s.pair_key; weight_key = k; marked_key = s.marked_key })
+          (record { last = Weight'; number = s.number; due = 0; weighted = s.weighted; more = s.more; begun = s.begun; pair_key = s.pair_key; weight_key = k; marked_key = s.marked_key })
           (going_on 8 x.done (with_weight c this) 0 x.more)
       unfolding components_of with_begun has_weighting begun_pairs begun_weightings with_weight add_weight
       weight_mirrored =
@@ -273,7 +275,7 @@ module _ (s : State) (x : CertificateReading) (c : Component) (is : x.begun ≡ 
 
       pub marked_mirrored :
           Mirrors
-          (record { last = 9; number = s.number; due = 0; weighted = s.weighted; more = s.more; begun = s.begun; pair_key = s.pair_key; weight_key = s.weight_key; marked_key = k })
+          (record { last = Marked'; number = s.number; due = 0; weighted = s.weighted; more = s.more; begun = s.begun; pair_key = s.pair_key; weight_key = s.weight_key; marked_key = k })
           (going_on 9 x.done (with_marked c this) 0 x.more)
       unfolding components_of with_begun has_weighting begun_pairs begun_weightings with_marked add_marked
       marked_mirrored =

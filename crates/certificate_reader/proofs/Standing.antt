@@ -7,12 +7,14 @@ use Prim.Native.Nat.{ℕ, ◌≤◌, ◌<◌}
 use native.Mathlib.Omega.{arith}
 use lib.Dec.{eqb}
 use borrow.Author.Tests.{eqb-true, eqb-false, eq-eqb, ne_eqb, leb-true}
+use Rattle.records.specs.Rows.{row_number}
 use Rattle.rewriting.specs.Terms.{System}
 use Rattle.rewriting.proofs.Basics.{by_test, and_left, and_right}
 use Rattle.records.specs.declared.Record.{Record}
 use Rattle.records.specs.Order.{c_component, p_pair, w_weight, m_marked, l_weighting, entry, order, when_in, lets, index, may_follow}
 use Rattle.certificate_reader.specs.declared.State.{State}
-use Rattle.certificate_reader.specs.declared.Stepped.{Stepped}
+use Rattle.std.specs.Prelude.{Result}
+use Rattle.records.specs.declared.Refusal.{Refusal}
 use Rattle.certificates.specs.Components.{Component}
 use Rattle.certificates.specs.CertificateReading.{CertificateReading, has_weighting, component_read, pair_read, weight_read, marked_read, weighting_read, inside_read, cert_step}
 use Rattle.certificate_reader.specs.Working.{SoundState, Mirrors, StepsAs}
@@ -95,31 +97,31 @@ rest_weighting own_L c p w m = refl
 
 -- WHERE A RECORD of kind k may stand
 
-module _ (s : State) (sound : SoundState s) (k : ℕ) (may : may_follow s.last (index k) s.due s.weighted ≡ true) where
-  row : Row s.last
-  row = row_of s.last sound.row_low sound.row_high
+module _ (s : State) (sound : SoundState s) (k : ℕ) (may : may_follow (row_number s.last) (index k) s.due s.weighted ≡ true) where
+  row : Row (row_number s.last)
+  row = row_of (row_number s.last) sound.row_low sound.row_high
 
-  as_kind : (n : ℕ) → k ≡ n → may_follow s.last (index n) s.due s.weighted ≡ true
-  as_kind n e = subst (λ (n : ℕ). may_follow s.last (index n) s.due s.weighted ≡ true) e may
+  as_kind : (n : ℕ) → k ≡ n → may_follow (row_number s.last) (index n) s.due s.weighted ≡ true
+  as_kind n e = subst (λ (n : ℕ). may_follow (row_number s.last) (index n) s.due s.weighted ≡ true) e may
 
-  pub pair_may_stand : k ≡ p_pair → (s.last ≡ 5 → ⊥) × (1 ≤ s.due)
+  pub pair_may_stand : k ≡ p_pair → ((row_number s.last) ≡ 5 → ⊥) × (1 ≤ s.due)
   unfolding index
   pair_may_stand e = pair_row s.due s.weighted row sound.after_C (as_kind p_pair e)
 
-  pub weight_may_stand : k ≡ w_weight → (s.last ≡ 5 → ⊥) × (s.due ≡ 0) × (s.weighted ≡ true)
+  pub weight_may_stand : k ≡ w_weight → ((row_number s.last) ≡ 5 → ⊥) × (s.due ≡ 0) × (s.weighted ≡ true)
   unfolding index
   weight_may_stand e = weight_row s.due s.weighted row sound.none_due sound.has_one (as_kind w_weight e)
 
-  pub marked_may_stand : k ≡ m_marked → (s.last ≡ 5 → ⊥) × (s.due ≡ 0) × (s.weighted ≡ true)
+  pub marked_may_stand : k ≡ m_marked → ((row_number s.last) ≡ 5 → ⊥) × (s.due ≡ 0) × (s.weighted ≡ true)
   unfolding index
   marked_may_stand e = marked_row s.due s.weighted row sound.none_due sound.has_one (as_kind m_marked e)
 
-  pub weighting_may_stand : k ≡ l_weighting → (s.last ≡ 5 → ⊥) × (s.due ≡ 0) × (s.weighted ≡ true)
+  pub weighting_may_stand : k ≡ l_weighting → ((row_number s.last) ≡ 5 → ⊥) × (s.due ≡ 0) × (s.weighted ≡ true)
   unfolding index
   weighting_may_stand e = weighting_row s.due s.weighted row sound.none_due sound.has_one (as_kind l_weighting e)
 
   own : OwnKind k
-  own = own_kind s.last s.due s.weighted sound.row_low (omega (arith, sound.row_high)) k may
+  own = own_kind (row_number s.last) s.due s.weighted sound.row_low (omega (arith, sound.row_high)) k may
 
   pub only_weight : p_pair < k → k ≡ w_weight
   only_weight = above_weight own
@@ -128,7 +130,7 @@ module _ (s : State) (sound : SoundState s) (k : ℕ) (may : may_follow s.last (
   only_weighting = rest_weighting own
 
 -- and then the step is the step of its kind
-module _ (p : System) (r : Record) (s : State) (x : CertificateReading) (t : Stepped) (m : Mirrors s x) (may : may_follow s.last (index r.kind) s.due s.weighted ≡ true) where
+module _ (p : System) (r : Record) (s : State) (x : CertificateReading) (t : Result State Refusal) (m : Mirrors s x) (may : may_follow (row_number s.last) (index r.kind) s.due s.weighted ≡ true) where
   stands : may_follow x.last (index r.kind) x.due (has_weighting x.begun) ≡ true
   stands = may_follow_mirrored s x m (index r.kind) ∙ may
 

@@ -11,7 +11,7 @@ use Rattle.records.specs.declared.Refusal.{Refusal}
 use Rattle.records.specs.Outcomes.{Outcome, refused, passed}
 use Rattle.records.specs.Answers.{number_of}
 use Rattle.certificate_reader.specs.declared.State.{State}
-use Rattle.certificate_reader.specs.declared.Stepped.TheVariants.{On, Refused as Stopped}
+use Rattle.std.specs.Prelude.{Result, Ok, Err}
 use Rattle.certificates.specs.CertificateReading.{CertificateReading, cert_step, cert_from}
 use Rattle.certificate_reader.specs.Working.{Mirrors, StepsAs}
 use Rattle.certificates.proofs.OneRecord.{nothing_read}
@@ -28,21 +28,21 @@ told_nothing p rs = record { reading = nothing_read; mirrors = start_mirrored; r
 
 -- WHAT A STEP'S ANSWER TELLS
 
-stopped_same : {y z : Refusal} → Stopped y ≡ Stopped z → y ≡ z
+stopped_same : {y z : Refusal} → ◌≡◌ {A = Result State Refusal} (Err y) (Err z) → y ≡ z
 stopped_same e = cc
 
-on_same : {s t : State} → On s ≡ On t → s ≡ t
+on_same : {s t : State} → ◌≡◌ {A = Result State Refusal} (Ok s) (Ok t) → s ≡ t
 on_same e = cc
 
-not_on : {y : Refusal} {s : State} → Stopped y ≡ On s → ⊥
+not_on : {y : Refusal} {s : State} → ◌≡◌ {A = Result State Refusal} (Err y) (Ok s) → ⊥
 not_on {y} {s} e = let z : ◌≡◌ {A = ℕ} 0 1 = cc in omega arith
 
-stopped_as : (o : Outcome CertificateReading) (y : Refusal) → StepsAs o (Stopped y) → o ≡ refused (number_of y)
+stopped_as : (o : Outcome CertificateReading) (y : Refusal) → StepsAs o (Err y) → o ≡ refused (number_of y)
 unfolding StepsAs
 stopped_as (refused n) y h = let same : y ≡ h.0 = stopped_same h.1 in ap refused (sym (ap number_of same ∙ h.2))
 stopped_as (passed x) y h = absurd (not_on h.1)
 
-gone_on : (o : Outcome CertificateReading) (t : State) → StepsAs o (On t) → (x : CertificateReading) × (o ≡ passed x) × Mirrors t x
+gone_on : (o : Outcome CertificateReading) (t : State) → StepsAs o (Ok t) → (x : CertificateReading) × (o ≡ passed x) × Mirrors t x
 unfolding StepsAs
 gone_on (refused n) t h = absurd (not_on (sym h.1))
 gone_on (passed x) t h = (x, refl, subst (λ (u : State). Mirrors u x) (sym (on_same h.1)) h.2)
@@ -50,12 +50,12 @@ gone_on (passed x) t h = (x, refl, subst (λ (u : State). Mirrors u x) (sym (on_
 -- ONE TURN: record i is r, and the step answers to it
 
 module _ (p : System) (rs : List Record) (i : ℕ) (s : State) (told : Told p rs i s) (r : Record) (here : drop i rs ≡ r ∷ drop (suc i) rs) where
-  pub told_refusal : (y : Refusal) → StepsAs (cert_step p r told.reading) (Stopped y) → cert_from p rs nothing_read ≡ refused (number_of y)
+  pub told_refusal : (y : Refusal) → StepsAs (cert_step p r told.reading) (Err y) → cert_from p rs nothing_read ≡ refused (number_of y)
   unfolding cert_from
   told_refusal y st =
       sym told.rest ∙ ap (λ (l : List Record). cert_from p l told.reading) here ∙ rw (stopped_as (cert_step p r told.reading) y st)
 
-  module _ (t : State) (st : StepsAs (cert_step p r told.reading) (On t)) where
+  module _ (t : State) (st : StepsAs (cert_step p r told.reading) (Ok t)) where
     next : (y : CertificateReading) × (cert_step p r told.reading ≡ passed y) × Mirrors t y
     next = gone_on (cert_step p r told.reading) t st
 

@@ -1,23 +1,21 @@
 -- How the code reads a certificate: a state of a few numbers. The contracts between our own functions speak of it; no promise
 -- to a user does.
-use Rattle.std.specs.Prelude.{◌≡◌, true, List, [], ℕ, ◌+◌, ◌*◌, ◌≤◌, ◌<◌, ltb, length}
+use Rattle.std.specs.Prelude.{◌≡◌, true, Result, Ok, Err, List, [], ℕ, ◌+◌, ◌*◌, ◌≤◌, ◌<◌, ltb, length}
 use Rattle.std.proofs.Math.Option.{Option, none, some}
 use Rattle.terms.specs.Kept.{symbols_room}
 use Rattle.rewriting.specs.Pairs.{Pair}
 use Rattle.records.specs.declared.Record.{Record}
-use Rattle.records.specs.declared.Answer.{Answer}
 use Rattle.records.specs.declared.Refusal.{Refusal}
 use Rattle.records.specs.Outcomes.{Outcome, refused, passed}
-use Rattle.records.specs.Answers.{number_of, answer_outcome}
+use Rattle.records.specs.Answers.{number_of, outcome_of}
 use Rattle.records.specs.Order.{index, may_follow}
+use Rattle.records.specs.Rows.{row_number}
 use Rattle.records.specs.Files.{Whole}
 use Rattle.records.specs.Rising.{last_below}
 use Rattle.packs.specs.PackReading.{most_symbols}
 use Rattle.pair_finder.specs.Walking.{Laid, KeptPack}
 use Rattle.polynomials.specs.Polynomials.{Weighting}
 use Rattle.certificate_reader.specs.declared.State.{State}
-use Rattle.certificate_reader.specs.declared.Stepped.{Stepped}
-use Rattle.certificate_reader.specs.declared.Stepped.TheVariants.{On, Refused as Stopped}
 use Rattle.certificates.specs.Components.{Component, last_weighting}
 use Rattle.certificates.specs.CertificateReading.{CertificateReading, most_certificate_bytes, components_of, has_weighting}
 
@@ -39,16 +37,16 @@ begun_weightings (some c) = c.weightings
 
 -- what the table makes sure of: pairs are due after C; none is due, and there is a weighting, after W, M and L
 pub record SoundState (s : State) : Type 0 where
-  pub row_low : 5 ≤ s.last
-  pub row_high : s.last ≤ 10
-  pub after_C : s.last ≡ 6 → 1 ≤ s.due
-  pub none_due : 8 ≤ s.last → s.due ≡ 0
-  pub has_one : 8 ≤ s.last → s.weighted ≡ true
+  pub row_low : 5 ≤ (row_number s.last)
+  pub row_high : (row_number s.last) ≤ 10
+  pub after_C : (row_number s.last) ≡ 6 → 1 ≤ s.due
+  pub none_due : 8 ≤ (row_number s.last) → s.due ≡ 0
+  pub has_one : 8 ≤ (row_number s.last) → s.weighted ≡ true
 
 -- the state tells what has been read
 pub record Mirrors (s : State) (x : CertificateReading) : Type 0 where
-  pub last_is : s.last ≡ x.last
-  pub begun_is : (s.last ≡ 5 → ⊥) → (c : Component) × (x.begun ≡ some c)
+  pub last_is : (row_number s.last) ≡ x.last
+  pub begun_is : ((row_number s.last) ≡ 5 → ⊥) → (c : Component) × (x.begun ≡ some c)
   pub number_is : s.number ≡ length (components_of x)
   pub due_is : s.due ≡ x.due
   pub weighted_is : s.weighted ≡ has_weighting x.begun
@@ -59,18 +57,18 @@ pub record Mirrors (s : State) (x : CertificateReading) : Type 0 where
   pub marked_key_tells : Tells (λ w. w.symbol) (λ w. w.place) (last_weighting (begun_weightings x.begun)).marked s.marked_key
 
 -- what one step answers
-unfoldable pub StepsAs : Outcome CertificateReading → Stepped → Type 0
-StepsAs (refused n) r = (y : Refusal) × (r ≡ Stopped y) × (number_of y ≡ n)
-StepsAs (passed x) r = (s : State) × (r ≡ On s) × Mirrors s x
+unfoldable pub StepsAs : Outcome CertificateReading → Result State Refusal → Type 0
+StepsAs (refused n) r = (y : Refusal) × (r ≡ Err y) × (number_of y ≡ n)
+StepsAs (passed x) r = (s : State) × (r ≡ Ok s) × Mirrors s x
 
 -- the next state is sound, and has at most one component and one weighting more
-unfoldable pub GoesOn : State → Stepped → Type 0
-GoesOn s r = (u : State) → r ≡ On u → SoundState u × (u.number ≤ s.number + 1) × (u.begun ≤ s.begun + 1)
+unfoldable pub GoesOn : State → Result State Refusal → Type 0
+GoesOn s r = (u : State) → r ≡ Ok u → SoundState u × (u.number ≤ s.number + 1) × (u.begun ≤ s.begun + 1)
 
 -- what `read_components` answers: the refusal, or how many components there are
-unfoldable pub CertificateRead : Outcome (List Component) → Answer → Type 0
-CertificateRead (refused n) r = answer_outcome r ≡ refused n
-CertificateRead (passed cs) r = answer_outcome r ≡ passed (length cs)
+unfoldable pub CertificateRead : Outcome (List Component) → Result ℕ Refusal → Type 0
+CertificateRead (refused n) r = outcome_of r ≡ refused n
+CertificateRead (passed cs) r = outcome_of r ≡ passed (length cs)
 
 -- THE CONTRACTS: what each function is asked, and what it answers
 
@@ -80,7 +78,7 @@ pub record KeyIs (a b r : ℕ) : Type 0 where
   pub small : r ≤ 4294967296
 
 -- what one step answers: it goes on soundly, and it means what its record does
-pub record SteppedAs (s : State) (t : Stepped) (Means : Type 0) : Type 0 where
+pub record SteppedAs (s : State) (t : Result State Refusal) (Means : Type 0) : Type 0 where
   pub on : GoesOn s t
   pub means : Means
 
@@ -121,7 +119,7 @@ pub record StepAsked (r : Record) (s : State) (symbols rules : ℕ) (arities sta
   pub number_small : s.number < 65536
   pub begun_small : s.begun < 65536
   pub sound : SoundState s
-  pub follows : may_follow s.last (index r.kind) s.due s.weighted ≡ true
+  pub follows : may_follow (row_number s.last) (index r.kind) s.due s.weighted ≡ true
 
 -- a certificate is to be read for a pack that is kept
 pub record ReadingAsked (certificate : List ℕ) (symbols rules : ℕ) (arities starts nodes flags : List ℕ) : Type 0 where

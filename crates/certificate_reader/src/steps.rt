@@ -9,7 +9,8 @@ ghost use Rattle.certificates.specs.Components.{Component, first_weighting};
 ghost use Rattle.certificates.specs.CertificateReading.{CertificateReading, cert_step, component_read, pair_read, weight_read, marked_read, weighting_read};
 ghost use Rattle.certificate_reader.specs.Working.{Mirrors, StepsAs, KeyIs, SteppedAs, PairAsked, PlaceAsked, MarkedPlaceAsked, WeightAsked, MarkedAsked, WeightingAsked, StepAsked};
 
-use crate::{State, Stepped};
+use crate::State;
+use records::order::Before;
 use records::{Record, Refusal};
 use terms::{Marked, Symbol};
 
@@ -36,36 +37,36 @@ fn first(weightings: u16) -> u16
 }
 
 // C: its number, weightings and pairs.
-fn component(r: Record, s: State) -> Stepped
+fn component(r: Record, s: State) -> Result<State, Refusal>
     requires { s.number < 65536 }
     ensures { SteppedAs s result ((x : CertificateReading) → Mirrors s x → r.kind ≡ c_component → StepsAs (component_read r x) result) }
 {
     if s.more != 0 {
-        return Stepped::Refused(Refusal::StrayRecord);
+        return Err(Refusal::StrayRecord);
     }
     if r.one != 0 {
-        return Stepped::Refused(Refusal::StrayRecord);
+        return Err(Refusal::StrayRecord);
     }
     if r.a as usize != s.number {
-        return Stepped::Refused(Refusal::StrayRecord);
+        return Err(Refusal::StrayRecord);
     }
     if r.b == 0 {
         if 1 < r.c {
-            return Stepped::Refused(Refusal::StrayRecord);
+            return Err(Refusal::StrayRecord);
         }
     }
     if MOST_WEIGHTINGS < r.b {
-        return Stepped::Refused(Refusal::OutOfRange);
+        return Err(Refusal::OutOfRange);
     }
     if r.c < 1 {
-        return Stepped::Refused(Refusal::OutOfRange);
+        return Err(Refusal::OutOfRange);
     }
     if MOST_PAIRS < r.c {
-        return Stepped::Refused(Refusal::OutOfRange);
+        return Err(Refusal::OutOfRange);
     }
     let begun = first(r.b);
-    Stepped::On(State {
-        last: records::order::COMPONENT,
+    Ok(State {
+        last: Before::Component,
         number: s.number + 1,
         due: r.c as usize,
         weighted: r.b != 0,
@@ -78,34 +79,43 @@ fn component(r: Record, s: State) -> Stepped
 }
 
 // P: a rule and a place, rising; 7 where they name no pair.
-fn pair(r: Record, s: State, rules: usize, starts: &[u16], nodes: &[u8], defined: &[u8]) -> Stepped
+fn pair(
+    r: Record,
+    s: State,
+    rules: usize,
+    starts: &[u16],
+    nodes: &[u8],
+    defined: &[u8],
+) -> Result<State, Refusal>
     requires { PairAsked s rules starts.now nodes.now defined.now }
     ensures { SteppedAs s result ((p : System) (symbols : ℕ) (arities : List ℕ) (x : CertificateReading) (c : Component) → Stored p symbols rules arities starts.now nodes.now defined.now → Mirrors s x → x.begun ≡ some c → r.kind ≡ p_pair → StepsAs (pair_read p r x c) result) }
 {
     if r.one != 0 {
-        return Stepped::Refused(Refusal::StrayRecord);
+        return Err(Refusal::StrayRecord);
     }
     if r.c != 0 {
-        return Stepped::Refused(Refusal::StrayRecord);
+        return Err(Refusal::StrayRecord);
     }
     let k = key(r.a, r.b);
     if k <= s.pair_key {
-        return Stepped::Refused(Refusal::StrayRecord);
+        return Err(Refusal::StrayRecord);
     }
-    match pair_finder::arcs::place_of(starts, nodes, defined, rules, r.a as usize, r.b as usize) {
-        Err(x) => Stepped::Refused(x),
-        Ok(_) => Stepped::On(State {
-            last: records::order::PAIR,
-            number: s.number,
-            due: s.due - 1,
-            weighted: s.weighted,
-            more: s.more,
-            begun: s.begun,
-            pair_key: k,
-            weight_key: s.weight_key,
-            marked_key: s.marked_key,
-        }),
-    }
+    let Ok(_) = pair_finder::arcs::place_of(
+        starts,
+        nodes,
+        defined,
+        rules,
+        r.a as usize,
+        r.b as usize,
+    ) else {
+        return Err(Refusal::NoSuchPair);
+    };
+    Ok(State {
+        last: Before::Pair,
+        due: s.due - 1,
+        pair_key: k,
+        ..s
+    })
 }
 
 // The symbol's constant, or one of its arguments.
@@ -132,91 +142,85 @@ fn is_marked_place(arities: &[u8], symbols: usize, defined: &[u8], f: Marked, i:
 }
 
 // W: a symbol, a place of it and the value there.
-fn weight(r: Record, s: State, symbols: usize, arities: &[u8]) -> Stepped
+fn weight(r: Record, s: State, symbols: usize, arities: &[u8]) -> Result<State, Refusal>
     requires { WeightAsked s symbols arities.now }
     ensures { SteppedAs s result ((p : System) (rules : ℕ) (starts nodes flags : List ℕ) (x : CertificateReading) (c : Component) → Stored p symbols rules arities.now starts nodes flags → Mirrors s x → x.begun ≡ some c → s.due ≡ 0 → r.kind ≡ w_weight → StepsAs (weight_read p r x c) result) }
 {
     if r.one != 0 {
-        return Stepped::Refused(Refusal::StrayRecord);
+        return Err(Refusal::StrayRecord);
     }
     let k = key(r.a, r.b);
     if k <= s.weight_key {
-        return Stepped::Refused(Refusal::StrayRecord);
+        return Err(Refusal::StrayRecord);
     }
     if !is_place(arities, symbols, Symbol(r.a), r.b) {
-        return Stepped::Refused(Refusal::OutOfRange);
+        return Err(Refusal::OutOfRange);
     }
-    Stepped::On(State {
-        last: records::order::WEIGHT,
-        number: s.number,
+    Ok(State {
+        last: Before::Weight,
         due: 0,
-        weighted: s.weighted,
-        more: s.more,
-        begun: s.begun,
-        pair_key: s.pair_key,
         weight_key: k,
-        marked_key: s.marked_key,
+        ..s
     })
 }
 
 // M: the same of a tuple symbol.
-fn marked(r: Record, s: State, symbols: usize, arities: &[u8], defined: &[u8]) -> Stepped
+fn marked(
+    r: Record,
+    s: State,
+    symbols: usize,
+    arities: &[u8],
+    defined: &[u8],
+) -> Result<State, Refusal>
     requires { MarkedAsked s symbols arities.now defined.now }
     ensures { SteppedAs s result ((p : System) (rules : ℕ) (starts nodes : List ℕ) (x : CertificateReading) (c : Component) → Stored p symbols rules arities.now starts nodes defined.now → Mirrors s x → x.begun ≡ some c → s.due ≡ 0 → r.kind ≡ m_marked → StepsAs (marked_read p r x c) result) }
 {
     if r.one != 0 {
-        return Stepped::Refused(Refusal::StrayRecord);
+        return Err(Refusal::StrayRecord);
     }
     let k = key(r.a, r.b);
     if k <= s.marked_key {
-        return Stepped::Refused(Refusal::StrayRecord);
+        return Err(Refusal::StrayRecord);
     }
     if !is_marked_place(arities, symbols, defined, Marked(r.a), r.b) {
-        return Stepped::Refused(Refusal::OutOfRange);
+        return Err(Refusal::OutOfRange);
     }
-    Stepped::On(State {
-        last: records::order::MARKED,
-        number: s.number,
+    Ok(State {
+        last: Before::Marked,
         due: 0,
-        weighted: s.weighted,
-        more: s.more,
-        begun: s.begun,
-        pair_key: s.pair_key,
-        weight_key: s.weight_key,
         marked_key: k,
+        ..s
     })
 }
 
 // L: the number of the weighting that it begins.
-fn weighting(r: Record, s: State) -> Stepped
+fn weighting(r: Record, s: State) -> Result<State, Refusal>
     requires { WeightingAsked s }
     ensures { SteppedAs s result ((x : CertificateReading) (c : Component) → Mirrors s x → x.begun ≡ some c → s.due ≡ 0 → r.kind ≡ l_weighting → StepsAs (weighting_read r x c) result) }
 {
     if r.one != 0 {
-        return Stepped::Refused(Refusal::StrayRecord);
+        return Err(Refusal::StrayRecord);
     }
     if r.a as usize != s.begun {
-        return Stepped::Refused(Refusal::StrayRecord);
+        return Err(Refusal::StrayRecord);
     }
     if r.b != 0 {
-        return Stepped::Refused(Refusal::StrayRecord);
+        return Err(Refusal::StrayRecord);
     }
     if r.c != 0 {
-        return Stepped::Refused(Refusal::StrayRecord);
+        return Err(Refusal::StrayRecord);
     }
     if s.more == 0 {
-        return Stepped::Refused(Refusal::StrayRecord);
+        return Err(Refusal::StrayRecord);
     }
-    Stepped::On(State {
-        last: records::order::WEIGHTING,
-        number: s.number,
+    Ok(State {
+        last: Before::Weighting,
         due: 0,
-        weighted: s.weighted,
         more: s.more - 1,
         begun: s.begun + 1,
-        pair_key: s.pair_key,
         weight_key: 0, // a weighting's W and M records rise anew
         marked_key: 0,
+        ..s
     })
 }
 
@@ -230,7 +234,7 @@ pub fn step(
     starts: &[u16],
     nodes: &[u8],
     defined: &[u8],
-) -> Stepped
+) -> Result<State, Refusal>
     requires { StepAsked r s symbols rules arities.now starts.now nodes.now defined.now }
     ensures { SteppedAs s result ((p : System) (x : CertificateReading) → Stored p symbols rules arities.now starts.now nodes.now defined.now → Mirrors s x → StepsAs (cert_step p r x) result) }
 {

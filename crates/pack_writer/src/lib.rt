@@ -28,8 +28,7 @@ fn write_symbols(out: &mut [u8], symbols: usize, arities: &[u8]) -> usize
     requires { (symbols ≤ most_symbols) × (length arities.now ≡ symbols_room) × (8 * symbols ≤ length out.old) }
     ensures { RecordsWritten 0 (symbol_records 0 (take symbols arities.now)) result out.old out.new }
 {
-    let mut i = 0;
-    while i < symbols {
+    for i in 0..symbols {
         records::write_record(
             out,
             8 * i,
@@ -41,7 +40,6 @@ fn write_symbols(out: &mut [u8], symbols: usize, arities: &[u8]) -> usize
                 c: 0,
             },
         );
-        i = i + 1;
     }
     8 * symbols
 }
@@ -74,11 +72,9 @@ fn write_nodes(out: &mut [u8], at: usize, nodes: &[u8], from: usize, to: usize) 
     ensures { RecordsWritten at (map byte_record (part nodes.now from to)) result out.old out.new }
 {
     let mut next = at;
-    let mut i = from;
-    while i < to {
+    for i in from..to {
         records::write_record(out, next, node_record(nodes[i]));
         next = next + 8;
-        i = i + 1;
     }
     next
 }
@@ -123,8 +119,7 @@ pub fn write_pack(
     ensures { (q : WritingAsked out.old symbols rules arities.now starts.now nodes.now) → out.new ≡ written q.pack.system out.old }
 {
     let mut at = write_symbols(out, symbols, arities);
-    let mut i = 0;
-    while i < rules {
+    for i in 0..rules {
         at = write_rule(
             out,
             at,
@@ -134,6 +129,5 @@ pub fn write_pack(
             starts[2 * i + 1] as usize,
             starts[2 * i + 2] as usize,
         );
-        i = i + 1;
     }
 }

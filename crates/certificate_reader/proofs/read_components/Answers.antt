@@ -8,17 +8,19 @@ use native.Mathlib.Omega.{arith}
 use lib.ListN.{length, drop}
 use Rattle.rewriting.specs.Terms.{System}
 use Rattle.records.specs.declared.Record.{Record}
-use Rattle.records.specs.declared.Wanted.TheVariants.{Found}
+use Rattle.std.specs.Prelude.{Some}
 use Rattle.records.specs.Records.{all_records}
 use Rattle.records.specs.Order.{index, may_follow}
-use Rattle.records.specs.Rows.{column_at}
+use Rattle.records.specs.Rows.{row_number}
+use Rattle.records.proofs.Outcomes.{handed_on}
 use Rattle.records.specs.Wanted.{wanted_at}
 use Rattle.records.proofs.Bytes.{drop_records}
 use Rattle.pack_reader.specs.Stored.{Stored}
 use Rattle.pack_reader.proofs.Wanted.{found_at, stray_at}
 use Rattle.certificate_reader.specs.declared.State.{State}
-use Rattle.certificate_reader.specs.declared.Stepped.{Stepped}
-use Rattle.certificate_reader.specs.declared.Stepped.TheVariants.{On}
+use Rattle.std.specs.Prelude.{Result, Ok}
+use Rattle.records.specs.declared.Refusal.{Refusal}
+use Rattle.std.specs.Prelude.{Result, Ok}
 use Rattle.certificates.specs.CertificateReading.{cert_step}
 use Rattle.certificate_reader.specs.Working.{StepsAs, GoesOn}
 use Rattle.certificate_reader.proofs.Mirrored.{start_sound}
@@ -27,26 +29,26 @@ use Rattle.certificate_reader.proofs.Ends.{ends_refused, ends_stray, ends_early,
 use Rattle.certificate_reader.proofs.read_components.Goals as goal
 
 -- a record r that may stand was read
-module _ (ds : List ℕ) (i : ℕ) (s : State) (r : Record) (w : wanted_at ds (8 * i) s.last s.due s.weighted ≡ Found r) where
-  stands : may_follow s.last (index r.kind) s.due s.weighted ≡ true
+module _ (ds : List ℕ) (i : ℕ) (s : State) (r : Record) (w : wanted_at ds (8 * i) (row_number s.last) s.due s.weighted ≡ Some r) where
+  stands : may_follow (row_number s.last) (index r.kind) s.due s.weighted ≡ true
   stands =
-      let f = found_at ds (8 * i) s.last s.due s.weighted w in
-      subst (λ (q : Record). may_follow s.last (index q.kind) s.due s.weighted ≡ true) (sym f.1) f.0
+      let f = found_at ds (8 * i) (row_number s.last) s.due s.weighted w in
+      subst (λ (q : Record). may_follow (row_number s.last) (index q.kind) s.due s.weighted ≡ true) (sym f.1) f.0
 
   here : i < length ds / 8 → drop i (all_records ds) ≡ r ∷ drop (suc i) (all_records ds)
   here h =
-      let f = found_at ds (8 * i) s.last s.due s.weighted w in
+      let f = found_at ds (8 * i) (row_number s.last) s.due s.weighted w in
       drop_records ds i h ∙ ap (λ (q : Record). q ∷ drop (suc i) (all_records ds)) (sym f.1)
 
 pub loop-i-init : goal.loop-i-init
-loop-i-init c = (omega arith, start_sound, omega arith, omega arith, λ p stored. told_nothing p _)
+loop-i-init c = (start_sound, omega arith, omega arith, λ p stored. told_nothing p _)
 
 pub returns-in_default : goal.returns-in_default
 returns-in_default c =
     let l = c.loop-i in
     λ p stored.
-    ends_stray p _ l.i l.s (l.invariant.4 p stored) c.loop-i-test.true
-    (stray_at _ (8 * l.i) l.s.last l.s.due l.s.weighted (sym c.read_wanted.ensures ∙ c.in_default.is))
+    ends_stray p _ l.i l.s (l.invariant.3 p stored) (omega arith)
+    (stray_at _ (8 * l.i) (row_number l.s.last) l.s.due l.s.weighted (sym c.read_wanted.ensures ∙ c.in_default.is))
 
 pub step-requires : goal.step-requires
 step-requires c =
@@ -55,69 +57,62 @@ step-requires c =
     record {
       symbols_few = asked.symbols_few;
       arrays = asked.arrays;
-      number_small = omega (arith, l.invariant.0, l.invariant.2, asked.file.short);
-      begun_small = omega (arith, l.invariant.0, l.invariant.3, asked.file.short);
-      sound = l.invariant.1;
-      follows = stands _ l.i l.s c.in-Found.r (sym c.read_wanted.ensures ∙ c.in-Found.is);
+      number_small = omega (arith, l.invariant.1, asked.file.short);
+      begun_small = omega (arith, l.invariant.2, asked.file.short);
+      sound = l.invariant.0;
+      follows = stands _ l.i l.s c.in-Some.r (sym c.read_wanted.ensures ∙ c.in-Some.is);
     }
 
-pub returns-in-Refused : goal.returns-in-Refused
-returns-in-Refused c =
+pub returns-in_err-s : goal.returns-in_err-s
+returns-in_err-s c =
     let i : ℕ = c.loop-i.i in
     let s : State = c.loop-i.s in
-    let r : Record = c.in-Found.r in
+    let r : Record = c.in-Some.r in
     let all : List Record = all_records c.args.certificate.now in
     let Holds : System → Type 0 = (λ p. Stored p c.args.symbols c.args.rules c.args.arities.now c.args.starts.now c.args.nodes.now c.args.defined.now) in
-    let told : (p : System) → Holds p → Told p all i s = (λ p stored. c.loop-i.invariant.4 p stored) in
-    let this : drop i all ≡ r ∷ drop (suc i) all = here _ i s r (sym c.read_wanted.ensures ∙ c.in-Found.is) c.loop-i-test.true in
-    let answered : (p : System) (stored : Holds p) (a : Stepped) → c.step.result ≡ a → StepsAs (cert_step p r (told p stored).reading) a = (λ p stored a e. subst (λ (a : Stepped). StepsAs (cert_step p r (told p stored).reading) a) e (c.step.ensures.means p (told p stored).reading stored (told p stored).mirrors)) in
+    let told : (p : System) → Holds p → Told p all i s = (λ p stored. c.loop-i.invariant.3 p stored) in
+    let this : drop i all ≡ r ∷ drop (suc i) all = here _ i s r (sym c.read_wanted.ensures ∙ c.in-Some.is) (omega arith) in
+    let answered : (p : System) (stored : Holds p) (a : Result State Refusal) → c.step.result ≡ a → StepsAs (cert_step p r (told p stored).reading) a = (λ p stored a e. subst (λ (a : Result State Refusal). StepsAs (cert_step p r (told p stored).reading) a) e (c.step.ensures.means p (told p stored).reading stored (told p stored).mirrors)) in
     λ p stored.
-    ends_refused p _ _
-    (told_refusal p all i s (told p stored) r this _ (answered p stored _ c.in-Refused.is))
-
-pub overflow_add-i : goal.overflow_add-i
-overflow_add-i c = omega (arith, c.requires.file.short)
+    rw (handed_on c.from_residual.result c.from_residual.ensures.1) (ends_refused p _ _
+    (told_refusal p all i s (told p stored) r this _ (answered p stored _ c.in_err-s.was)))
 
 pub loop-i-preserved : goal.loop-i-preserved
 unfolding GoesOn
 loop-i-preserved c =
     let i : ℕ = c.loop-i.i in
     let s : State = c.loop-i.s in
-    let r : Record = c.in-Found.r in
+    let r : Record = c.in-Some.r in
     let all : List Record = all_records c.args.certificate.now in
     let Holds : System → Type 0 = (λ p. Stored p c.args.symbols c.args.rules c.args.arities.now c.args.starts.now c.args.nodes.now c.args.defined.now) in
-    let told : (p : System) → Holds p → Told p all i s = (λ p stored. c.loop-i.invariant.4 p stored) in
-    let this : drop i all ≡ r ∷ drop (suc i) all = here _ i s r (sym c.read_wanted.ensures ∙ c.in-Found.is) c.loop-i-test.true in
-    let answered : (p : System) (stored : Holds p) (a : Stepped) → c.step.result ≡ a → StepsAs (cert_step p r (told p stored).reading) a = (λ p stored a e. subst (λ (a : Stepped). StepsAs (cert_step p r (told p stored).reading) a) e (c.step.ensures.means p (told p stored).reading stored (told p stored).mirrors)) in
-    let next = c.in-On.t in
-    let sound = c.step.ensures.on next c.in-On.is in (
-      omega (arith, c.loop-i-test.true),
+    let told : (p : System) → Holds p → Told p all i s = (λ p stored. c.loop-i.invariant.3 p stored) in
+    let this : drop i all ≡ r ∷ drop (suc i) all = here _ i s r (sym c.read_wanted.ensures ∙ c.in-Some.is) (omega arith) in
+    let answered : (p : System) (stored : Holds p) (a : Result State Refusal) → c.step.result ≡ a → StepsAs (cert_step p r (told p stored).reading) a = (λ p stored a e. subst (λ (a : Result State Refusal). StepsAs (cert_step p r (told p stored).reading) a) e (c.step.ensures.means p (told p stored).reading stored (told p stored).mirrors)) in
+    let next = c.in_ok-s.s in
+    let sound = c.step.ensures.on next c.in_ok-s.was in (
       sound.0,
-      omega (arith, sound.1, c.loop-i.invariant.2),
-      omega (arith, sound.2, c.loop-i.invariant.3),
-      λ p stored. told_next p all i s (told p stored) r this next (answered p stored (On next) c.in-On.is),
+      omega (arith, sound.1, c.loop-i.invariant.1),
+      omega (arith, sound.2, c.loop-i.invariant.2),
+      λ p stored. told_next p all i s (told p stored) r this next (answered p stored (Ok next) c.in_ok-s.was),
     )
 
-pub returns-then-not-may_follow : goal.returns-then-not-may_follow
-unfolding column_at
-returns-then-not-may_follow c =
+pub returns-then-not-may_end : goal.returns-then-not-may_end
+returns-then-not-may_end c =
     let l = c.loop-i in
     λ p stored.
-    ends_early p _ l.i l.s (l.invariant.4 p stored) c.loop-i-test.false
-    (sym c.may_follow.ensures ∙ c.if-not-may_follow.true)
+    ends_early p _ l.i l.s (l.invariant.3 p stored) (omega arith)
+    (sym c.may_end.ensures ∙ c.if-not-may_end.true)
 
 pub returns-then-s-ne0 : goal.returns-then-s-ne0
-unfolding column_at
 returns-then-s-ne0 c =
-    let may_end : c.may_follow.result ≡ true = c.if-not-may_follow.false in
+    let may_end : c.may_end.result ≡ true = c.if-not-may_end.false in
     let l = c.loop-i in
     λ p stored.
-    ends_missing p _ l.i l.s (l.invariant.4 p stored) c.loop-i-test.false (sym c.may_follow.ensures ∙ may_end) c.if-s-ne0.true
+    ends_missing p _ l.i l.s (l.invariant.3 p stored) (omega arith) (sym c.may_end.ensures ∙ may_end) c.if-s-ne0.true
 
 pub returns : goal.returns
-unfolding column_at
 returns c =
-    let may_end : c.may_follow.result ≡ true = c.if-not-may_follow.false in
+    let may_end : c.may_end.result ≡ true = c.if-not-may_end.false in
     let l = c.loop-i in
     λ p stored.
-    ends_read p _ l.i l.s (l.invariant.4 p stored) c.loop-i-test.false (sym c.may_follow.ensures ∙ may_end) c.if-s-ne0.false
+    ends_read p _ l.i l.s (l.invariant.3 p stored) (omega arith) (sym c.may_end.ensures ∙ may_end) c.if-s-ne0.false

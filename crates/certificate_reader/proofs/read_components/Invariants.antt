@@ -1,6 +1,6 @@
 -- `certificate_reader::read_components` meets its contract. The loop's invariant: the state is sound, counts no more than the
 -- records read, and for each system that the arrays hold it tells what the first i records are.
-use Prim.Native.Nat.{◌-◌, ◌≤◌}
+use Prim.Native.Nat.{◌≤◌}
 use Rattle.rewriting.specs.Terms.{System}
 use Rattle.records.specs.Records.{all_records}
 use Rattle.pack_reader.specs.Stored.{Stored}
@@ -10,7 +10,4 @@ use Rattle.certificate_reader.proofs.read_components.Given as goal
 
 abbrev pub invariant-loop-i : goal.invariant-loop-i
 invariant-loop-i l =
-    (l.i ≤ l.n) × SoundState l.s × (l.s.number ≤ l.i) × (l.s.begun ≤ l.i) × ((p : System) → Stored p l.symbols l.rules l.arities l.starts l.nodes l.defined → Told p (all_records l.certificate) l.i l.s)
-
-abbrev pub decreases-loop-i : goal.decreases-loop-i
-decreases-loop-i l = l.n - l.i
+    SoundState l.s × (l.s.number ≤ l.i) × (l.s.begun ≤ l.i) × ((p : System) → Stored p l.symbols l.rules l.arities l.starts l.nodes l.defined → Told p (all_records l.certificate) l.i l.s)

@@ -10,6 +10,3 @@ use Rattle.pack_writer.proofs.write_nodes.Given as goal
 abbrev pub invariant-loop-i : goal.invariant-loop-i
 invariant-loop-i l =
     (l.from ≤ l.i) × (l.i ≤ l.to) × (length l.out ≡ length l.initial.out) × (l.next ≡ l.at + 8 * (l.i - l.from)) × RecordsWritten l.at (map byte_record (part l.nodes l.from l.i)) l.next l.initial.out l.out
-
-abbrev pub decreases-loop-i : goal.decreases-loop-i
-decreases-loop-i l = l.to - l.i

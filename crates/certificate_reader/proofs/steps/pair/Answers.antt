@@ -8,9 +8,9 @@ use lib.Dec.{eqb}
 use Rattle.std.specs.Prelude.{Result, Ok, Err}
 use Rattle.rewriting.specs.Pairs.{is_pair}
 use Rattle.records.specs.declared.Refusal.{Refusal}
-use Rattle.records.specs.declared.Refusal.TheVariants.{StrayRecord}
-use Rattle.records.specs.Answers.{number_of, outcome_of}
-use Rattle.records.specs.Outcomes.{Outcome, refused, passed}
+use Rattle.records.specs.declared.Refusal.TheVariants.{StrayRecord, NoSuchPair}
+use Rattle.records.specs.Answers.{outcome_of}
+use Rattle.records.specs.Outcomes.{refused, passed}
 use Rattle.records.specs.Order.{index}
 use Rattle.records.proofs.Outcomes.{not_passed}
 use Rattle.pairs.specs.Listing.{a_pair}
@@ -18,24 +18,18 @@ use Rattle.pair_finder.specs.Walking.{PlaceAnswer}
 use Rattle.certificates.specs.CertificateReading.{pair_read}
 use Rattle.certificate_reader.specs.Working.{Tells}
 use Rattle.certificate_reader.proofs.Keys.{by_key}
-use Rattle.certificate_reader.proofs.Mirrored.{no_state, after_pair, stops, stops_with, answers, pairs_told, pair_mirrored}
+use Rattle.certificate_reader.proofs.Mirrored.{no_state, after_pair, stops, answers, pairs_told, pair_mirrored}
 use Rattle.certificate_reader.proofs.steps.pair.Goals as goal
 
 -- what the answer on the pair's place tells of the pair
-module _ (is : Bool) (n : ℕ) (a : Result ℕ Refusal) (e : outcome_of a ≡ cond is (passed n) (refused 7)) where
-  not_named : (y : Refusal) → a ≡ Err y → (is ≡ false) × (number_of y ≡ 7)
-  not_named y h = go is e
-    where
-      go : (b : Bool) → outcome_of a ≡ cond b (passed n) (refused 7) → (b ≡ false) × (number_of y ≡ 7)
-      go true k = not_passed (sym (ap outcome_of h) ∙ k)
-      go false k = (refl, let same : ◌≡◌ {A = Outcome ℕ} (refused (number_of y)) (refused 7) = sym (ap outcome_of h) ∙ k in cc)
+not_named : (is : Bool) (n : ℕ) (a : Result ℕ Refusal) → outcome_of a ≡ cond is (passed n) (refused 7) → ((k : ℕ) → a ≡ Ok k → ⊥) → is ≡ false
+not_named is n (Ok k) e none = absurd (none k refl)
+not_named true n (Err y) e none = not_passed e
+not_named false n (Err y) e none = refl
 
-  named : (k : ℕ) → a ≡ Ok k → is ≡ true
-  named k h = go is e
-    where
-      go : (b : Bool) → outcome_of a ≡ cond b (passed n) (refused 7) → b ≡ true
-      go true _ = refl
-      go false l = not_passed (sym l ∙ ap outcome_of h)
+named : (is : Bool) (n : ℕ) {a : Result ℕ Refusal} → outcome_of a ≡ cond is (passed n) (refused 7) → (k : ℕ) → a ≡ Ok k → is ≡ true
+named true n e k h = refl
+named false n e k h = not_passed (sym e ∙ ap outcome_of h)
 
 pub returns-then-r-ne0 : goal.returns-then-r-ne0
 unfolding pair_read
@@ -60,27 +54,27 @@ returns-then-k-s c =
       means = λ p symbols arities x d stored m is kind. rw (zeros, by_key _ _ _ _ _ _ _ (pairs_told _ x d is m) small c.key-k.ensures.is, le-ltb _ _ c.if-k-s.true) (stops StrayRecord);
     }
 
-pub returns-in-Err : goal.returns-in-Err
+pub returns-in_default : goal.returns-in_default
 unfolding pair_read PlaceAnswer Tells
-returns-in-Err c =
+returns-in_default c =
     let zeros : eqb c.args.r.one 0 && eqb c.args.r.c 0 ≡ true = rw (eq-eqb _ _ c.if-r-ne0.false, eq-eqb _ _ c.if-r-ne0-2.false) in
     let small : c.args.r.b < 65536 = omega arith in
     record {
-      on = no_state _ _;
+      on = no_state _ NoSuchPair;
       means = λ p symbols arities x d stored m is kind.
-          let none : (is_pair p (a_pair c.args.r.a c.args.r.b) ≡ false) × _ = not_named _ _ _ (c.place_of.ensures p symbols arities stored) _ c.in-Err.is in
-          rw (zeros, by_key _ _ _ _ _ _ _ (pairs_told _ x d is m) small c.key-k.ensures.is, lt-ltb _ _ c.if-k-s.false, none.0) (stops_with 7 _ none.1);
+          let none : is_pair p (a_pair c.args.r.a c.args.r.b) ≡ false = not_named _ _ _ (c.place_of.ensures p symbols arities stored) c.in_default.not-Ok in
+          rw (zeros, by_key _ _ _ _ _ _ _ (pairs_told _ x d is m) small c.key-k.ensures.is, lt-ltb _ _ c.if-k-s.false, none) (stops NoSuchPair);
     }
 
-pub returns-in-Ok : goal.returns-in-Ok
+pub returns : goal.returns
 unfolding pair_read PlaceAnswer index Tells
-returns-in-Ok c =
+returns c =
     let zeros : eqb c.args.r.one 0 && eqb c.args.r.c 0 ≡ true = rw (eq-eqb _ _ c.if-r-ne0.false, eq-eqb _ _ c.if-r-ne0-2.false) in
     let small : c.args.r.b < 65536 = omega arith in
     record {
       on = after_pair _ _ refl refl refl;
       means = λ p symbols arities x d stored m is kind.
-          let one : is_pair p (a_pair c.args.r.a c.args.r.b) ≡ true = named _ _ _ (c.place_of.ensures p symbols arities stored) _ c.in-Ok.is in
+          let one : is_pair p (a_pair c.args.r.a c.args.r.b) ≡ true = named _ _ (c.place_of.ensures p symbols arities stored) _ c.in-Ok.is in
           rw (zeros, by_key _ _ _ _ _ _ _ (pairs_told _ x d is m) small c.key-k.ensures.is, lt-ltb _ _ c.if-k-s.false, one, kind)
           (answers _ _ (pair_mirrored _ x d is m _ _ _ c.key-k.ensures.is small));
     }

@@ -1,6 +1,7 @@
 -- `certificate_reader::steps::step` meets its contract: the record's kind says which step it is, and the table that it may be made.
 use mathlib.Core.Path.{◌≡◌}
 use mathlib.Core.Bool.{true}
+use Rattle.records.specs.Rows.{row_number}
 use Rattle.records.specs.Order.{l_weighting}
 use Rattle.certificate_reader.proofs.Standing.{pair_may_stand, weight_may_stand, marked_may_stand, weighting_may_stand, only_weight, only_weighting, component_steps, pair_steps, weight_steps, marked_steps, weighting_steps}
 use Rattle.certificate_reader.proofs.steps.step.Goals as goal
@@ -81,13 +82,13 @@ returns-then-r-eq77 c =
 pub weighting-requires : goal.weighting-requires
 weighting-requires c =
     let of_weighting : c.args.r.kind ≡ l_weighting = only_weighting _ c.requires.sound _ c.requires.follows c.if-r-eq67.false c.if-r-eq80.false c.if-r-gt80.false c.if-r-eq77.false in
-    let stands_there : (c.args.s.last ≡ 5 → ⊥) × (c.args.s.due ≡ 0) × (c.args.s.weighted ≡ true) = weighting_may_stand _ c.requires.sound _ c.requires.follows of_weighting in
+    let stands_there : ((row_number c.args.s.last) ≡ 5 → ⊥) × (c.args.s.due ≡ 0) × (c.args.s.weighted ≡ true) = weighting_may_stand _ c.requires.sound _ c.requires.follows of_weighting in
     record { weighted = stands_there.2; begun_small = c.requires.begun_small }
 
 pub returns : goal.returns
 returns c =
     let of_weighting : c.args.r.kind ≡ l_weighting = only_weighting _ c.requires.sound _ c.requires.follows c.if-r-eq67.false c.if-r-eq80.false c.if-r-gt80.false c.if-r-eq77.false in
-    let stands_there : (c.args.s.last ≡ 5 → ⊥) × (c.args.s.due ≡ 0) × (c.args.s.weighted ≡ true) = weighting_may_stand _ c.requires.sound _ c.requires.follows of_weighting in
+    let stands_there : ((row_number c.args.s.last) ≡ 5 → ⊥) × (c.args.s.due ≡ 0) × (c.args.s.weighted ≡ true) = weighting_may_stand _ c.requires.sound _ c.requires.follows of_weighting in
     record {
       on = c.weighting.ensures.on;
       means = λ p x stored m.
