@@ -1,6 +1,7 @@
 -- The table of weights as the code keeps it: nine cells for each symbol, its constant and then its arguments, and after them nine
 -- for each tuple symbol.
 use Rattle.std.specs.Prelude.{◌≡◌, List, ℕ, ◌+◌, ◌*◌, ◌≤◌, ◌<◌, length, get_or}
+use Rattle.std.proofs.Common.{arith}
 use Rattle.polynomials.specs.Polynomials.{Weight, weight}
 
 -- where a symbol's cells begin, and a tuple symbol's
@@ -9,6 +10,13 @@ row f = 9 * f
 
 abbrev pub marked_row : ℕ → ℕ
 marked_row f = 576 + 9 * f
+
+-- a symbol's nine cells, and a tuple symbol's, lie within the table
+pub symbol_within : (f : ℕ) → f < 64 → row f + 8 < 1152
+symbol_within f h = omega arith
+
+pub marked_within : (f : ℕ) → f < 64 → marked_row f + 8 < 1152
+marked_within f h = omega arith
 
 -- the cells from `first` on hold f's weights
 pub record RowIs (table : List ℕ) (first f : ℕ) (ws : List Weight) : Type 0 where

@@ -10,7 +10,7 @@ ghost use Rattle.weights.specs.Sums.{Summed};
 ghost use Rattle.weights.specs.Working.{Weighable, Applied, rooted, rooted_over, SideSummed, verdict, pair_verdict};
 
 use crate::sums::{BEFORE_VARIABLES, SUMS};
-use crate::table::CELLS;
+use crate::table::{CELLS, Head};
 use crate::{PairVerdict, Verdict};
 use terms::{MOST_SYMBOLS, Marked, NODES_ROOM, Symbol};
 
@@ -33,7 +33,7 @@ fn side(
         sums[c - BEFORE_VARIABLES] = 1;
         return;
     }
-    let row = crate::table::row_of(Symbol(code as u16));
+    let row = Symbol(u16::from(code)).row();
     crate::form_at(sums, 1, at, row, table, nodes, arities, end, false);
 }
 
@@ -80,7 +80,7 @@ pub fn marked_side(
     ensures side_summed { SideSummed arities.now nodes.now table.now at (end - at) skips sums.new }
     ensures long { length sums.new ≡ 17 }
 {
-    let row = crate::table::marked_row_of(Marked(nodes[at] as u16));
+    let row = Marked(u16::from(nodes[at])).row();
     crate::form_at(sums, 1, at, row, table, nodes, arities, end, skips);
 }
 

@@ -14,11 +14,11 @@ ghost use Rattle.weights.specs.Sums.{numbers, Sums, AddsTo};
 ghost use Rattle.weights.specs.Working.{Weighable, rooted, rooted_over, KnownWithin};
 
 use sums::{BEFORE_VARIABLES, SUMS};
-use table::CELLS;
+use table::{CELLS, Head};
 use terms::{MOST_SYMBOLS, NODES_ROOM, Symbol};
 
 // What rules are found to be: over the limit, a left side not at least its right, or each at least its right.
-#[derive(Clone, Copy)]
+#[derive(Clone, Copy, PartialEq, Eq)]
 pub enum Verdict {
     Over,
     Fails,
@@ -26,24 +26,12 @@ pub enum Verdict {
 }
 
 // What a pair is found to be: over the limit, or its left side not at least its right, at least but not greater, or greater.
-#[derive(Clone, Copy)]
+#[derive(Clone, Copy, PartialEq, Eq)]
 pub enum PairVerdict {
     Over,
     Rises,
     Stays,
     Falls,
-}
-
-fn wide(x: u16) -> u64
-    ensures { (result ≡ x) × (result < 65536) }
-{
-    x as u64
-}
-
-fn arity(x: u8) -> usize
-    ensures { (result ≡ x) × (result < 256) }
-{
-    x as usize
 }
 
 // Adds `factor` times the polynomial of the term kept at `at`, an application that ends before `end`, its root's weights in the
@@ -77,28 +65,27 @@ pub fn form_at(
         }
         return after;
     }
-    sums::add(sums, 0, factor * wide(table[row]));
+    sums::add(sums, 0, factor * u64::from(table[row]));
     if sums::over(sums) {
         return at;
     }
-    let n = arity(arities[nodes[at] as usize]);
+    let n = usize::from(arities[nodes[at] as usize]);
     if n == 0 {
         return at + 1;
     }
     let mut next = at + 1;
-    let mut i = 1;
-    while i < n {
+    for i in 1..n {
         let code = nodes[next];
-        let k = sums::cap(factor * wide(table[row + i]));
+        let k = sums::cap(factor * u64::from(table[row + i]));
         let c = code as usize;
         // A variable or a constant is weighed in place.
         if MOST_SYMBOLS <= c {
             sums::add(sums, c - BEFORE_VARIABLES, k);
             next = next + 1;
         } else {
-            let first = table::row_of(Symbol(code as u16));
+            let first = Symbol(u16::from(code)).row();
             if arities[c] == 0 {
-                sums::add(sums, 0, k * wide(table[first]));
+                sums::add(sums, 0, k * u64::from(table[first]));
                 next = next + 1;
             } else {
                 next = form_at(sums, k, next, first, table, nodes, arities, end, skips);
@@ -107,18 +94,17 @@ pub fn form_at(
         if sums::over(sums) {
             return next;
         }
-        i = i + 1;
     }
     let code = nodes[next];
-    let k = sums::cap(factor * wide(table[row + n]));
+    let k = sums::cap(factor * u64::from(table[row + n]));
     let c = code as usize;
     if MOST_SYMBOLS <= c {
         sums::add(sums, c - BEFORE_VARIABLES, k);
         return next + 1;
     }
-    let first = table::row_of(Symbol(code as u16));
+    let first = Symbol(u16::from(code)).row();
     if arities[c] == 0 {
-        sums::add(sums, 0, k * wide(table[first]));
+        sums::add(sums, 0, k * u64::from(table[first]));
         return next + 1;
     }
     // The last call of all, so that a chain of unary symbols is a loop.

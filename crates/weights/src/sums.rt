@@ -63,12 +63,10 @@ pub fn all_at_least(xs: &[u64; SUMS], ys: &[u64; SUMS]) -> bool
     requires { (length xs.now ≡ 17) × (length ys.now ≡ 17) }
     ensures { result ≡ each_at_least xs.now ys.now }
 {
-    let mut v = 0;
-    while v < SUMS {
+    for v in 0..SUMS {
         if xs[v] < ys[v] {
             return false;
         }
-        v = v + 1;
     }
     true
 }

@@ -61,17 +61,17 @@ returns-else-over-clause-means t c =
 -- THE ROOT
 
 pub overflow_mul-factor : goal.overflow_mul-factor
-overflow_mul-factor t c = omega (arith, part_small _ _ c.requires.3 c.wide.ensures.1)
+overflow_mul-factor t c = omega (arith, part_small _ c.from.result c.requires.3 (omega arith))
 
 pub add-requires : goal.add-requires
-add-requires t c = (omega arith, c.requires.4, part_small _ _ c.requires.3 c.wide.ensures.1)
+add-requires t c = (omega arith, c.requires.4, part_small _ c.from.result c.requires.3 (omega arith))
 
 pub returns-then-over-2-clause-means : goal.returns-then-over-2-clause-means
 returns-then-over-2-clause-means t c =
     let a = c.args in
     let f =
     root_over _ _ a.table.now _ _ a.row a.factor a.skips a.sums.now c.requires.4 c.requires.1 _
-    (rw (← c.wide.ensures.0) c.add.ensures) (sym c.over-2.ensures ∙ c.if-over-2.true) a.at in
+    (rw (← c.from.ensures) c.add.ensures) (sym c.over-2.ensures ∙ c.if-over-2.true) a.at in
     f.means
 
 pub bounds-nodes-at : goal.bounds-nodes-at
@@ -82,17 +82,17 @@ returns-then-n-eq0 t c =
     let a = c.args in
     let f =
     root_alone _ _ a.table.now _ _ a.row a.factor a.skips a.sums.now c.requires.4 c.requires.1 _
-    (rw (← c.wide.ensures.0) c.add.ensures) (sym c.over-2.ensures ∙ c.if-over-2.false) (omega (arith, c.if-factor-eq0.false))
-    (sym (arity_is _ _ c.requires.1) ∙ sym c.arity-n.ensures.0 ∙ c.if-n-eq0.true) in
+    (rw (← c.from.ensures) c.add.ensures) (sym c.over-2.ensures ∙ c.if-over-2.false) (omega (arith, c.if-factor-eq0.false))
+    (sym (arity_is _ _ c.requires.1) ∙ sym c.from-n.ensures ∙ c.if-n-eq0.true) in
     record { bounded = (f.long, f.within); ends = f.ends; means = f.means }
 
 pub loop-i-init : goal.loop-i-init
 loop-i-init t c =
     let a = c.args in
     let added : AddsTo false (set a.sums.now 0 (get_or a.sums.now 0 0 + a.factor * get_or a.table.now a.row 0)) c.add.new.sums =
-    rw (← c.wide.ensures.0) c.add.ensures in
+    rw (← c.from.ensures) c.add.ensures in
     let within : ltb limit (get_or c.add.new.sums 0 0) ≡ false = sym c.over-2.ensures ∙ c.if-over-2.false in
-    let n : c.arity-n.result ≡ code_arity a.arities.now (get_or a.nodes.now a.at 0) = c.arity-n.ensures.0 ∙ arity_is _ _ c.requires.1 in
+    let n : c.from-n.result ≡ code_arity a.arities.now (get_or a.nodes.now a.at 0) = c.from-n.ensures ∙ arity_is _ _ c.requires.1 in
     record {
       few = omega (arith, n, (root_symbol _ _ _ _ c.requires.0 c.requires.1).few_arguments);
       begun = omega arith;
@@ -158,18 +158,18 @@ pub bounds-nodes-next : goal.bounds-nodes-next
 bounds-nodes-next t c = omega (arith, c.requires.5, begins c.loop-i.invariant c.requires.0)
 
 pub overflow_mul-factor-in-loop-i : goal.overflow_mul-factor-in-loop-i
-overflow_mul-factor-in-loop-i t c = omega (arith, part_small _ _ c.requires.3 c.wide-in-loop-i.ensures.1)
+overflow_mul-factor-in-loop-i t c = omega (arith, part_small _ c.from-in-loop-i.result c.requires.3 (omega arith))
 
 pub add-requires-then-c-ge-MOST_SYMBOLS : goal.add-requires-then-c-ge-MOST_SYMBOLS
 add-requires-then-c-ge-MOST_SYMBOLS t c =
     (omega (arith, byte c.loop-i.invariant c.requires.0, c.if-c-ge-MOST_SYMBOLS.true), c.loop-i.invariant.within, omega (arith, limit_room, taken_small _ _ c.cap-k.ensures))
 
 pub overflow_mul-k : goal.overflow_mul-k
-overflow_mul-k t c = omega (arith, part_small _ _ (taken_small _ _ c.cap-k.ensures) c.wide-then-arities-c-eq0.ensures.1)
+overflow_mul-k t c = omega (arith, part_small _ c.from-then-arities-c-eq0.result (taken_small _ _ c.cap-k.ensures) (omega arith))
 
 pub add-requires-then-arities-c-eq0 : goal.add-requires-then-arities-c-eq0
 add-requires-then-arities-c-eq0 t c =
-    (omega arith, c.loop-i.invariant.within, part_small _ _ (taken_small _ _ c.cap-k.ensures) c.wide-then-arities-c-eq0.ensures.1)
+    (omega arith, c.loop-i.invariant.within, part_small _ c.from-then-arities-c-eq0.result (taken_small _ _ c.cap-k.ensures) (omega arith))
 
 pub overflow_add-next-then-arities-c-eq0 : goal.overflow_add-next-then-arities-c-eq0
 overflow_add-next-then-arities-c-eq0 t c = omega (arith, c.requires.5, begins c.loop-i.invariant c.requires.0)
@@ -178,7 +178,7 @@ pub form_at-next-requires : goal.form_at-next-requires
 form_at-next-requires t c =
     let u = c.loop-i.invariant in
     let low = c.if-c-ge-MOST_SYMBOLS.false in
-    (omega (arith, c.decreases, fewer u c.requires.0), (argument u c.requires.0, low, omega (arith, c.row_of-first.ensures, low), taken_small _ _ c.cap-k.ensures, u.within, c.requires.5))
+    (omega (arith, c.decreases, fewer u c.requires.0), (argument u c.requires.0, low, omega (arith, c.row-first.ensures, low), taken_small _ _ c.cap-k.ensures, u.within, c.requires.5))
 
 pub returns-then-over-3-clause-means : goal.returns-then-over-3-clause-means
 returns-then-over-3-clause-means t c =
@@ -195,19 +195,20 @@ returns-then-over-3-clause-means t c =
           (variable_weighed _ _ _ _ _ v _ _ _ _ l.invariant.within.long
           w.if-c-ge-MOST_SYMBOLS.true w.add-then-c-ge-MOST_SYMBOLS.ensures)
       | else-c-ge-MOST_SYMBOLS+then-arities-c-eq0 w ↦
-          let own = w.wide-then-arities-c-eq0.ensures in
-          let first = w.row_of-first.ensures in
+          let own = w.from-then-arities-c-eq0.ensures in
+          let small : w.from-then-arities-c-eq0.result < 65536 = omega arith in
+          let first = rw w.from-else-c-ge-MOST_SYMBOLS.ensures at w.row-first.ensures in
           rw (w.sums-is, w.next-is)
           (constant_weighed _ _ _ _ _ v _ _ _ _ l.invariant.within.long
-          w.if-c-ge-MOST_SYMBOLS.false w.if-arities-c-eq0.true (rw (own.0, first) at own.1)
-          (rw (own.0, first) at w.add-then-arities-c-eq0.ensures))
+          w.if-c-ge-MOST_SYMBOLS.false w.if-arities-c-eq0.true (rw (own, first) at small)
+          (rw (own, first) at w.add-then-arities-c-eq0.ensures))
       | else-c-ge-MOST_SYMBOLS+else-arities-c-eq0 w ↦
           let e = w.form_at-next.ensures in
           rw (w.sums-is, w.next-is)
-          (call_weighed _ _ _ _ _ v _ _ _ _ _ _ w.row_of-first.ensures
+          (call_weighed _ _ _ _ _ v _ _ _ _ _ _ (rw w.from-else-c-ge-MOST_SYMBOLS.ensures at w.row-first.ensures)
           w.if-c-ge-MOST_SYMBOLS.false e.bounded.0 e.bounded.1 e.ends e.means)
     ] in
-    (passes l.invariant c.requires.0 c.requires.4 c.requires.1 _ (rw c.wide-in-loop-i.ensures.0 at c.cap-k.ensures) _ _ weighed
+    (passes l.invariant c.requires.0 c.requires.4 c.requires.1 _ (rw c.from-in-loop-i.ensures at c.cap-k.ensures) _ _ weighed
     (sym c.over-in-loop-i.ensures ∙ c.if-over-3.true)).means
 
 pub loop-i-preserved : goal.loop-i-preserved
@@ -225,19 +226,20 @@ loop-i-preserved t c =
           (variable_weighed _ _ _ _ _ v _ _ _ _ l.invariant.within.long
           w.if-c-ge-MOST_SYMBOLS.true w.add-then-c-ge-MOST_SYMBOLS.ensures)
       | else-c-ge-MOST_SYMBOLS+then-arities-c-eq0 w ↦
-          let own = w.wide-then-arities-c-eq0.ensures in
-          let first = w.row_of-first.ensures in
+          let own = w.from-then-arities-c-eq0.ensures in
+          let small : w.from-then-arities-c-eq0.result < 65536 = omega arith in
+          let first = rw w.from-else-c-ge-MOST_SYMBOLS.ensures at w.row-first.ensures in
           rw (w.sums-is, w.next-is)
           (constant_weighed _ _ _ _ _ v _ _ _ _ l.invariant.within.long
-          w.if-c-ge-MOST_SYMBOLS.false w.if-arities-c-eq0.true (rw (own.0, first) at own.1)
-          (rw (own.0, first) at w.add-then-arities-c-eq0.ensures))
+          w.if-c-ge-MOST_SYMBOLS.false w.if-arities-c-eq0.true (rw (own, first) at small)
+          (rw (own, first) at w.add-then-arities-c-eq0.ensures))
       | else-c-ge-MOST_SYMBOLS+else-arities-c-eq0 w ↦
           let e = w.form_at-next.ensures in
           rw (w.sums-is, w.next-is)
-          (call_weighed _ _ _ _ _ v _ _ _ _ _ _ w.row_of-first.ensures
+          (call_weighed _ _ _ _ _ v _ _ _ _ _ _ (rw w.from-else-c-ge-MOST_SYMBOLS.ensures at w.row-first.ensures)
           w.if-c-ge-MOST_SYMBOLS.false e.bounded.0 e.bounded.1 e.ends e.means)
     ] in
-    goes_on l.invariant c.requires.0 c.requires.4 c.requires.1 _ (rw c.wide-in-loop-i.ensures.0 at c.cap-k.ensures) _ _ weighed c.loop-i-test.true
+    goes_on l.invariant c.requires.0 c.requires.4 c.requires.1 _ (rw c.from-in-loop-i.ensures at c.cap-k.ensures) _ _ weighed c.loop-i-test.true
     (sym c.over-in-loop-i.ensures ∙ c.if-over-3.false)
 
 -- THE LAST ARGUMENT
@@ -246,7 +248,7 @@ pub bounds-nodes-next-2 : goal.bounds-nodes-next-2
 bounds-nodes-next-2 t c = omega (arith, c.requires.5, begins c.loop-i.invariant c.requires.0)
 
 pub overflow_mul-factor-2 : goal.overflow_mul-factor-2
-overflow_mul-factor-2 t c = omega (arith, part_small _ _ c.requires.3 c.wide-2.ensures.1)
+overflow_mul-factor-2 t c = omega (arith, part_small _ c.from-2.result c.requires.3 (omega arith))
 
 pub add-requires-then-c-ge-MOST_SYMBOLS-2 : goal.add-requires-then-c-ge-MOST_SYMBOLS-2
 add-requires-then-c-ge-MOST_SYMBOLS-2 t c =
@@ -256,9 +258,9 @@ pub returns-then-c-ge-MOST_SYMBOLS-2 : goal.returns-then-c-ge-MOST_SYMBOLS-2
 returns-then-c-ge-MOST_SYMBOLS-2 t c =
     let a = c.args in
     let l = c.loop-i in
-    let is_last : l.i ≡ c.arity-n.result = omega (arith, l.invariant.more, c.loop-i-test.false) in
+    let is_last : l.i ≡ c.from-n.result = omega (arith, l.invariant.more, c.loop-i-test.false) in
     let f =
-    last l.invariant c.requires.0 c.requires.4 c.requires.1 _ (rw (c.wide-2.ensures.0, ← is_last) at c.cap-k-2.ensures) _ _
+    last l.invariant c.requires.0 c.requires.4 c.requires.1 _ (rw (c.from-2.ensures, ← is_last) at c.cap-k-2.ensures) _ _
     (λ v.
     variable_weighed _ _ _ _ _ v _ _ _ _ l.invariant.within.long
     c.if-c-ge-MOST_SYMBOLS-2.true c.add-then-c-ge-MOST_SYMBOLS-2.ensures) is_last in
@@ -266,11 +268,11 @@ returns-then-c-ge-MOST_SYMBOLS-2 t c =
 
 pub overflow_mul-k-then-arities-c-eq0-2 : goal.overflow_mul-k-then-arities-c-eq0-2
 overflow_mul-k-then-arities-c-eq0-2 t c =
-    omega (arith, part_small _ _ (taken_small _ _ c.cap-k-2.ensures) c.wide-then-arities-c-eq0-2.ensures.1)
+    omega (arith, part_small _ c.from-then-arities-c-eq0-2.result (taken_small _ _ c.cap-k-2.ensures) (omega arith))
 
 pub add-requires-then-arities-c-eq0-2 : goal.add-requires-then-arities-c-eq0-2
 add-requires-then-arities-c-eq0-2 t c =
-    (omega arith, c.loop-i.invariant.within, part_small _ _ (taken_small _ _ c.cap-k-2.ensures) c.wide-then-arities-c-eq0-2.ensures.1)
+    (omega arith, c.loop-i.invariant.within, part_small _ c.from-then-arities-c-eq0-2.result (taken_small _ _ c.cap-k-2.ensures) (omega arith))
 
 pub overflow_add-result-then-arities-c-eq0-2 : goal.overflow_add-result-then-arities-c-eq0-2
 overflow_add-result-then-arities-c-eq0-2 t c = omega (arith, c.requires.5, begins c.loop-i.invariant c.requires.0)
@@ -279,32 +281,33 @@ pub returns-then-arities-c-eq0-2 : goal.returns-then-arities-c-eq0-2
 returns-then-arities-c-eq0-2 t c =
     let a = c.args in
     let l = c.loop-i in
-    let is_last : l.i ≡ c.arity-n.result = omega (arith, l.invariant.more, c.loop-i-test.false) in
-    let own = c.wide-then-arities-c-eq0-2.ensures in
-    let first = c.row_of-first-2.ensures in
+    let is_last : l.i ≡ c.from-n.result = omega (arith, l.invariant.more, c.loop-i-test.false) in
+    let own = c.from-then-arities-c-eq0-2.ensures in
+    let small : c.from-then-arities-c-eq0-2.result < 65536 = omega arith in
+    let first = rw c.from-3.ensures at c.row-first-2.ensures in
     let f =
-    last l.invariant c.requires.0 c.requires.4 c.requires.1 _ (rw (c.wide-2.ensures.0, ← is_last) at c.cap-k-2.ensures) _ _
+    last l.invariant c.requires.0 c.requires.4 c.requires.1 _ (rw (c.from-2.ensures, ← is_last) at c.cap-k-2.ensures) _ _
     (λ v.
     constant_weighed _ _ _ _ _ v _ _ _ _ l.invariant.within.long
-    c.if-c-ge-MOST_SYMBOLS-2.false c.if-arities-c-eq0-2.true (rw (own.0, first) at own.1)
-    (rw (own.0, first) at c.add-then-arities-c-eq0-2.ensures)) is_last in
+    c.if-c-ge-MOST_SYMBOLS-2.false c.if-arities-c-eq0-2.true (rw (own, first) at small)
+    (rw (own, first) at c.add-then-arities-c-eq0-2.ensures)) is_last in
     record { bounded = (f.long, f.within); ends = f.ends; means = f.means }
 
 pub form_at-requires : goal.form_at-requires
 form_at-requires t c =
     let u = c.loop-i.invariant in
     let low = c.if-c-ge-MOST_SYMBOLS-2.false in
-    (omega (arith, c.decreases, fewer u c.requires.0), (argument u c.requires.0, low, omega (arith, c.row_of-first-2.ensures, low), taken_small _ _ c.cap-k-2.ensures, u.within, c.requires.5))
+    (omega (arith, c.decreases, fewer u c.requires.0), (argument u c.requires.0, low, omega (arith, c.row-first-2.ensures, low), taken_small _ _ c.cap-k-2.ensures, u.within, c.requires.5))
 
 pub returns : goal.returns
 returns t c =
     let a = c.args in
     let l = c.loop-i in
-    let is_last : l.i ≡ c.arity-n.result = omega (arith, l.invariant.more, c.loop-i-test.false) in
+    let is_last : l.i ≡ c.from-n.result = omega (arith, l.invariant.more, c.loop-i-test.false) in
     let e = c.form_at.ensures in
     let f =
-    last l.invariant c.requires.0 c.requires.4 c.requires.1 _ (rw (c.wide-2.ensures.0, ← is_last) at c.cap-k-2.ensures) _ _
+    last l.invariant c.requires.0 c.requires.4 c.requires.1 _ (rw (c.from-2.ensures, ← is_last) at c.cap-k-2.ensures) _ _
     (λ v.
-    call_weighed _ _ _ _ _ v _ _ _ _ _ _ c.row_of-first-2.ensures
+    call_weighed _ _ _ _ _ v _ _ _ _ _ _ (rw c.from-3.ensures at c.row-first-2.ensures)
     c.if-c-ge-MOST_SYMBOLS-2.false e.bounded.0 e.bounded.1 e.ends e.means) is_last in
     record { bounded = (f.long, f.within); ends = f.ends; means = f.means }

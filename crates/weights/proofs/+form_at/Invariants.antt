@@ -25,6 +25,3 @@ pub record Underway
 
 abbrev pub invariant-loop-i : goal.invariant-loop-i
 invariant-loop-i l = Underway l.arities l.nodes l.table l.at l.end l.row l.factor l.skips l.n l.fn.sums l.sums l.next l.i
-
-abbrev pub decreases-loop-i : goal.decreases-loop-i
-decreases-loop-i l = l.n - l.i

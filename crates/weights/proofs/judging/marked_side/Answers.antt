@@ -9,13 +9,10 @@ use Rattle.weights.proofs.judging.marked_side.Goals as goal
 pub bounds-nodes-at : goal.bounds-nodes-at
 bounds-nodes-at c = omega (arith, c.requires.0, (node_within _ _ _ _ c.requires.1.side).0)
 
-pub overflow_cast-nodes : goal.overflow_cast-nodes
-overflow_cast-nodes c = omega (arith, code_small _ _ _ _ c.requires.1.side)
-
 pub form_at-requires : goal.form_at-requires
 form_at-requires c =
     let low = applied_low _ _ _ _ c.requires.1 in
-    (c.requires.1.side, low, omega (arith, c.marked_row_of-row.ensures, low), omega arith, rw c.requires.2 no_sums, c.requires.0)
+    (c.requires.1.side, low, omega (arith, c.row-row.ensures, low), omega arith, rw c.requires.2 no_sums, c.requires.0)
 
 pub returns : goal.returns
 unfolding SideSummed
@@ -26,7 +23,7 @@ returns c =
           let below = root_symbol _ _ _ _ w.side low in
           application_summed ms ws w.side.term _ below.arguments below.applied _
           (rw (← c.requires.2)
-          (e.means w.side ms ws (marked_row_is _ _ _ c.marked_row_of-row.ensures low ms m) t
+          (e.means w.side ms ws (marked_row_is _ _ _ (rw c.from.ensures at c.row-row.ensures) low ms m) t
           (record { below = known; itself = λ _ h. absurd (omega arith) })));
       long = e.bounded.0;
     }

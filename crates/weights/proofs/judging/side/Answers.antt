@@ -36,7 +36,7 @@ returns-then-c-ge-MOST_SYMBOLS c =
 pub form_at-requires : goal.form_at-requires
 form_at-requires c =
     let low = c.if-c-ge-MOST_SYMBOLS.false in
-    (c.requires.1, low, omega (arith, c.row_of-row.ensures, low), omega arith, rw c.requires.2 no_sums, c.requires.0)
+    (c.requires.1, low, omega (arith, c.row-row.ensures, low), omega arith, rw c.requires.2 no_sums, c.requires.0)
 
 pub returns : goal.returns
 returns c =
@@ -46,7 +46,7 @@ returns c =
           let below = root_symbol _ _ _ _ w low in
           application_summed ws ws w.term _ below.arguments below.applied _
           (rw (← c.requires.2)
-          (e.means w ws ws (plain_row _ _ _ c.row_of-row.ensures low ws t) t
+          (e.means w ws ws (plain_row _ _ _ (rw c.from.ensures at c.row-row.ensures) low ws t) t
           (record { below = λ h. absurd (false≢true h); itself = λ h. absurd (false≢true h) })));
       long = e.bounded.0;
     }

@@ -9,6 +9,3 @@ use Rattle.weights.proofs.sums.all_at_least.Given as goal
 abbrev pub invariant-loop-v : goal.invariant-loop-v
 invariant-loop-v l =
     (length l.xs ≡ 17) × (length l.ys ≡ 17) × (l.v ≤ 17) × (each_at_least (drop l.v l.xs) (drop l.v l.ys) ≡ each_at_least l.xs l.ys)
-
-abbrev pub decreases-loop-v : goal.decreases-loop-v
-decreases-loop-v l = 17 - l.v
