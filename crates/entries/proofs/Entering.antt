@@ -2,21 +2,20 @@
 --     entered-within, entered-past          the place is there, or lies past all entries
 --     Turn         before record i: the number of the component and the count of the pairs so far, and the entries, which have these pairs
 --     start        before record 0
---     Fetched, Numbered, Placed, Made, Entered, Counted     what the calls of a turn say of the record as a number, the component's number, the place, the entry, the entries after it, and the count
---     goes_on      before record i + 1
+--     pair_entered, other_passed     before record i + 1, where record i names a pair and where it does not
 --     ends         no record is left
 use mathlib.Core.Path.{◌≡◌, refl, sym, ap, ◌∙◌}
 use mathlib.Core.Bool.{Bool, true, false, cond}
 use mathlib.Core.List.{List, [], ◌∷◌, ◌++◌, append-nil}
 use mathlib.Core.Logic.{◌≢◌}
-use Prim.Native.Nat.{ℕ, suc, ◌+◌, ◌*◌, ◌/◌, ◌-◌, ◌≤◌, ◌<◌}
+use Prim.Native.Nat.{ℕ, suc, ◌+◌, ◌*◌, ◌/◌, ◌≤◌, ◌<◌}
 use native.Mathlib.Omega.{arith}
 use lib.Dec.{ltb, eqb}
 use lib.ListN.{length, get_or, set, drop, length-append, drop_of_length-le, get_or-append}
 use lib.Seq.{append_snoc, get_or-append_seam, get_or-set_same, get_or-set_other}
 use borrow.Author.Tests.{lt-ltb, le-ltb, ltb-true, ltb-false}
 use Rattle.records.specs.declared.Record.{Record}
-use Rattle.records.specs.Records.{all_records, fields, WordAt}
+use Rattle.records.specs.Records.{all_records, record_at}
 use Rattle.records.specs.Order.{c_component, p_pair}
 use Rattle.records.proofs.Bytes.{length_of_records, drop_records}
 use Rattle.entries.specs.Entries.{none, numbered, entry, entries_of, with_entry, Keeps}
@@ -95,69 +94,45 @@ module _ (bs : List ℕ) where
 
   module _ (t : Turn) where
     module _ (more : t.i < many) where
-      -- w is record i as a number, m the number of the component, s the place, e the entry; zs are the entries after the turn, and c is the count
-      abbrev pub Fetched : (w : ℕ) → Type 0
-      Fetched w = WordAt bs (8 * t.i) w
-
-      abbrev pub Numbered : (w m : ℕ) → Type 0
-      Numbered w m = m ≡ numbered t.number (fields w)
-
-      abbrev pub Placed : (w s : ℕ) → Type 0
-      Placed w s = s ≡ cond (eqb (fields w).kind p_pair) t.count 2048
-
-      abbrev pub Made : (w m : ℕ) (e : Entry) → Type 0
-      Made w m e = e ≡ entry (fields w) m
-
-      abbrev pub Entered : (s : ℕ) (e : Entry) (zs : List Entry) → Type 0
-      Entered s e zs = zs ≡ with_entry t.entries s e
-
-      abbrev pub Counted : (w c : ℕ) → Type 0
-      Counted w c = c ≡ cond (eqb (fields w).kind p_pair) (suc t.count) t.count
-
       -- the number goes up by one at most
-      pub next_few : (w : ℕ) {m : ℕ} → Numbered w m → m ≤ t.i + 1
+      pub next_few : (r : Record) {m : ℕ} → m ≡ numbered t.number r → m ≤ t.i + 1
       unfolding numbered
-      next_few w e = rw e (go (eqb (fields w).kind c_component))
+      next_few r e = rw e (go (eqb r.kind c_component))
         where
           go : (b : Bool) → cond b (suc t.number) t.number ≤ t.i + 1
           go true = omega (arith, t.few)
           go false = omega (arith, t.few)
 
-      pub nearer : many - (t.i + 1) < many - t.i
-      nearer = omega arith
-
       abbrev after : List Record
       after = drop (t.i + 1) (all_records bs)
 
-      module _ {w : ℕ} (is_w : Fetched w) where
-        abbrev here : Record
-        here = fields w
-
+      -- r is record i, m' the number of its component, e' its entry
+      module _ {r : Record} (is_r : r ≡ record_at bs (8 * t.i)) where
         abbrev is_pair : Bool
-        is_pair = eqb here.kind p_pair
+        is_pair = eqb r.kind p_pair
 
-        first_left : all ≡ t.so_far.named ++ entries_of t.number (here ∷ after)
+        first_left : all ≡ t.so_far.named ++ entries_of t.number (r ∷ after)
         first_left =
             let one_on : suc t.i ≡ t.i + 1 = omega arith in
             t.so_far.left
-            ∙ ap (λ (rs : List Record). t.so_far.named ++ entries_of t.number rs) (drop_records bs t.i more ∙ rw (one_on, ← is_w.record_is) refl)
+            ∙ ap (λ (rs : List Record). t.so_far.named ++ entries_of t.number rs) (drop_records bs t.i more ∙ rw (one_on, ← is_r) refl)
 
-        -- the record's pair is named after the others, and stands at the next place
         abbrev m' : ℕ
-        m' = numbered t.number here
+        m' = numbered t.number r
 
         abbrev e' : Entry
-        e' = entry here m'
+        e' = entry r m'
 
-        one_named : is_pair ≡ true → SoFar (t.i + 1) m' (suc t.count) (with_entry t.entries t.count e')
+        -- the record's pair is named after the others, and stands at the next place
+        one_named : is_pair ≡ true → SoFar (t.i + 1) m' (t.count + 1) (with_entry t.entries t.count e')
         one_named p = record {
           named = t.so_far.named ++ (e' ∷ []);
-          counted = length-append t.so_far.named (e' ∷ []) ∙ ap (λ (k : ℕ). k + 1) t.so_far.counted ∙ omega arith;
-          left = first_left ∙ ap (λ (xs : List Entry). t.so_far.named ++ xs) (pair_first t.number here after p) ∙ sym (append_snoc t.so_far.named e' (entries_of m' after));
+          counted = length-append t.so_far.named (e' ∷ []) ∙ ap (λ (k : ℕ). k + 1) t.so_far.counted;
+          left = first_left ∙ ap (λ (xs : List Entry). t.so_far.named ++ xs) (pair_first t.number r after p) ∙ sym (append_snoc t.so_far.named e' (entries_of m' after));
           are = λ k small there. go k there (ltb k t.count) refl small;
         }
           where
-            go : (k : ℕ) → k < 2048 → (b : Bool) → ltb k t.count ≡ b → k < suc t.count → get_or (with_entry t.entries t.count e') k none ≡ get_or (t.so_far.named ++ (e' ∷ [])) k none
+            go : (k : ℕ) → k < 2048 → (b : Bool) → ltb k t.count ≡ b → k < t.count + 1 → get_or (with_entry t.entries t.count e') k none ≡ get_or (t.so_far.named ++ (e' ∷ [])) k none
             go k there true b small =
                 let before : k < t.count = ltb-true k t.count b in
                 let c = t.so_far.counted in
@@ -172,41 +147,20 @@ module _ (bs : List ℕ) where
                 ap (λ (j : ℕ). get_or (with_entry t.entries t.count e') j none) at_count ∙ entered_here t.entries t.count e' (omega arith)
                 ∙ sym (ap (λ (j : ℕ). get_or (t.so_far.named ++ (e' ∷ [])) j none) at_end ∙ get_or-append_seam t.so_far.named e' [] none)
 
-        none_named : is_pair ≡ false → SoFar (t.i + 1) m' t.count (with_entry t.entries 2048 e')
+        none_named : is_pair ≡ false → SoFar (t.i + 1) m' t.count t.entries
         none_named p = record {
           named = t.so_far.named;
           counted = t.so_far.counted;
-          left = first_left ∙ ap (λ (xs : List Entry). t.so_far.named ++ xs) (other_first t.number here after p);
-          are = λ k small there. entered_elsewhere t.entries 2048 e' k (λ same. absurd (omega arith)) ∙ t.so_far.are k small there;
+          left = first_left ∙ ap (λ (xs : List Entry). t.so_far.named ++ xs) (other_first t.number r after p);
+          are = t.so_far.are;
         }
 
-        module _ {m s c : ℕ} {e : Entry} {zs : List Entry} (is_m : Numbered w m) (is_s : Placed w s) (is_e : Made w m e) (said : Entered s e zs) (is_c : Counted w c) where
-          pub next_so_far : SoFar (t.i + 1) m c zs
-          next_so_far = rw (said, is_c, is_s, is_e, is_m) (go is_pair refl)
-            where
-              go : (b : Bool) → is_pair ≡ b → SoFar (t.i + 1) m' (cond b (suc t.count) t.count) (with_entry t.entries (cond b t.count 2048) e')
-              go true p = one_named p
-              go false p = none_named p
+        module _ {m : ℕ} (is_m : m ≡ m') where
+          pub pair_entered : is_pair ≡ true → {e : Entry} {zs : List Entry} → e ≡ entry r m → zs ≡ with_entry t.entries t.count e → SoFar (t.i + 1) m (t.count + 1) zs
+          pair_entered p is_e said = rw (said, is_e, is_m) (one_named p)
 
-          pub next_fewer : c ≤ t.i + 1
-          next_fewer = rw is_c (go is_pair)
-            where
-              go : (b : Bool) → cond b (suc t.count) t.count ≤ t.i + 1
-              go true = omega arith
-              go false = omega arith
-
-          abbrev pub goes_on : length zs ≡ length t.entries → Turn
-          goes_on l = record {
-            i = t.i + 1;
-            number = m;
-            count = c;
-            entries = zs;
-            within = omega arith;
-            few = next_few w is_m;
-            fewer = next_fewer;
-            long = l ∙ t.long;
-            so_far = next_so_far;
-          }
+          pub other_passed : is_pair ≡ false → SoFar (t.i + 1) m t.count t.entries
+          other_passed p = rw is_m (none_named p)
 
     pub ends : many ≤ t.i → Keeps (all_records bs) (record { count = t.count; entries = t.entries })
     ends over = record {

@@ -1,11 +1,10 @@
 #![tactic(auto)]
 // The pairs that a certificate names, kept as entries of rule, place and component, and the weightings under which they left.
-ghost use Rattle.std.specs.Prelude.{◌≡◌, cond, suc, ◌%◌, ◌≤◌, ◌<◌, eqb, length};
-ghost use Rattle.records.specs.Records.{all_records, fields};
-ghost use Rattle.records.specs.Order.{p_pair};
-ghost use Rattle.entries.specs.Entries.{numbered, entry, with_entry, Keeps, telling, HasRoom, Told};
+ghost use Rattle.std.specs.Prelude.{◌≡◌, suc, ◌%◌, ◌≤◌, ◌<◌, length};
+ghost use Rattle.records.specs.Records.{all_records};
+ghost use Rattle.entries.specs.Entries.{numbered, entry, with_entry, Keeps, HasRoom, Told};
 
-use records::MOST_PAIRS;
+use records::{MOST_PAIRS, Record};
 
 // The weighting is 0 until it is told. No byte is left between the fields, so that all entries are cleared at once.
 #[derive(Clone, Copy)]
@@ -24,45 +23,20 @@ pub struct Store {
 }
 
 // The number of the component that a record belongs to.
-fn numbered(word: u64, before: u16) -> u16
+fn numbered(r: Record, before: u16) -> u16
     requires { before < 65535 }
-    ensures { result ≡ numbered before (fields word) }
+    ensures { result ≡ numbered before r }
 {
-    let r = records::fields(word);
     if r.kind == b'C' {
         return before + 1;
     }
     before
 }
 
-// The place of a record's entry: after the count entries before it, or past all entries if it names no pair.
-fn place_of(word: u64, count: usize) -> usize
-    ensures { result ≡ cond (eqb (fields word).kind p_pair) count 2048 }
-{
-    let r = records::fields(word);
-    if r.kind == b'P' {
-        return count;
-    }
-    MOST_PAIRS
-}
-
-// How many pairs there are up to and with a record.
-fn counted(word: u64, count: usize) -> usize
-    requires { count ≤ 4096 }
-    ensures { result ≡ cond (eqb (fields word).kind p_pair) (suc count) count }
-{
-    let r = records::fields(word);
-    if r.kind == b'P' {
-        return count + 1;
-    }
-    count
-}
-
 // The entry that a record gives.
-fn entry_of(word: u64, component: u16) -> Entry
-    ensures { result ≡ entry (fields word) component }
+fn entry_of(r: Record, component: u16) -> Entry
+    ensures { result ≡ entry r component }
 {
-    let r = records::fields(word);
     Entry {
         rule: (r.a % 256) as u8,
         place: (r.b % 256) as u8,
@@ -88,15 +62,13 @@ fn enter_all(certificate: &[u8], entries: &mut [Entry]) -> usize
     let n = certificate.len() / 8;
     let mut number = 0u16;
     let mut count = 0;
-    let mut i = 0;
-    while i < n {
-        let word = records::word_at(certificate, 8 * i);
-        number = numbered(word, number);
-        let at = place_of(word, count);
-        let entry = entry_of(word, number);
-        enter(entries, at, entry);
-        count = counted(word, count);
-        i = i + 1;
+    for i in 0..n {
+        let r = records::fields(records::word_at(certificate, 8 * i));
+        number = numbered(r, number);
+        if r.kind == b'P' {
+            enter(entries, count, entry_of(r, number));
+            count += 1;
+        }
     }
     count
 }
@@ -116,18 +88,6 @@ pub fn keep(certificate: &[u8]) -> Store
     Store { entries, count }
 }
 
-// The entry, with the weighting under which its pair left.
-fn telling(e: Entry, weighting: u8) -> Entry
-    ensures { result ≡ telling e weighting }
-{
-    Entry {
-        rule: e.rule,
-        place: e.place,
-        component: e.component,
-        weighting: weighting as u16,
-    }
-}
-
 // Puts into each entry the weighting under which its pair left.
 pub fn tell(store: Store, weightings: &[u8; MOST_PAIRS]) -> Store
     requires { HasRoom store }
@@ -135,11 +95,8 @@ pub fn tell(store: Store, weightings: &[u8; MOST_PAIRS]) -> Store
 {
     let n = store.count;
     let mut entries = store.entries;
-    let mut i = 0;
-    while i < n {
-        let e = entries[i];
-        entries[i] = telling(e, weightings[i]);
-        i = i + 1;
+    for i in 0..n {
+        entries[i].weighting = u16::from(weightings[i]);
     }
     Store { entries, count: n }
 }

@@ -1,8 +1,11 @@
 -- `entries::enter_all` meets its contract. The loop's invariant: the entries have the pairs of the records passed.
-use Rattle.std.proofs.Common.{◌≡◌, ◌∙◌, ℕ, ◌/◌, ◌≤◌, ◌<◌, List, length}
+use Rattle.std.proofs.Common.{◌≡◌, ◌∙◌, ℕ, ◌*◌, ◌/◌, ◌≤◌, ◌<◌, List, length}
 use native.Mathlib.Omega.{arith}
+use borrow.Author.Tests.{eq-eqb, ne_eqb}
+use Rattle.records.specs.Records.{record_at}
 use Rattle.entries.specs.declared.Entry.{Entry}
-use Rattle.entries.proofs.Entering.{SoFar, Turn, start, ends, next_few, next_fewer, next_so_far}
+use Rattle.entries.proofs.Entering.{SoFar, Turn, start, ends, next_few, pair_entered, other_passed}
+use Rattle.entries.proofs.enter_all.Goals.{then-r-eq80, else-r-eq80}
 use Rattle.entries.proofs.enter_all.Goals as goal
 
 -- the loop's state as a turn
@@ -28,15 +31,25 @@ loop-i-preserved c =
     let bs = c.args.certificate.now in
     let t = turn bs _ _ _ _ c.loop-i.invariant in
     let more : t.i < length bs / 8 = c.loop-i-test.true in
-    let is_w = c.word_at-word.ensures in
+    let is_r : c.fields-r.result ≡ record_at bs (8 * t.i) = c.fields-r.ensures ∙ c.word_at.ensures.record_is in
     let is_m = c.numbered-number.ensures in
-    let is_c = c.counted-count.ensures in (
-      omega arith,
-      next_few bs t more _ is_m,
-      next_fewer bs t more is_w is_m c.place_of-at.ensures c.entry_of-entry.ensures c.enter.ensures is_c,
-      c.enter.auto.entries ∙ c.loop-i.invariant.3,
-      next_so_far bs t more is_w is_m c.place_of-at.ensures c.entry_of-entry.ensures c.enter.ensures is_c,
-    )
+    elim c.if-r-eq80.branch [
+      | then-r-eq80 w ↦ (
+        omega arith,
+        next_few bs t more _ is_m,
+        omega arith,
+        rw w.entries-is (w.enter.auto.entries ∙ c.loop-i.invariant.3),
+        rw (w.entries-is, w.count-is)
+            (pair_entered bs t more is_r is_m (eq-eqb _ _ w.if-r-eq80.true) w.entry_of.ensures w.enter.ensures),
+      )
+      | else-r-eq80 w ↦ (
+        omega arith,
+        next_few bs t more _ is_m,
+        omega arith,
+        rw w.entries-is c.loop-i.invariant.3,
+        rw (w.entries-is, w.count-is) (other_passed bs t more is_r is_m (ne_eqb _ _ w.if-r-eq80.false)),
+      )
+    ]
 
 pub returns : goal.returns
 returns c = let bs = c.args.certificate.now in ends bs (turn bs _ _ _ _ c.loop-i.invariant) c.loop-i-test.false

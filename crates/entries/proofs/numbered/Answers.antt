@@ -1,5 +1,5 @@
 -- `entries::numbered` meets its contract: C begins the next component.
-use mathlib.Core.Path.{refl, sym}
+use mathlib.Core.Path.{refl}
 use native.Mathlib.Omega.{arith}
 use borrow.Author.Tests.{eq-eqb, ne_eqb}
 use Rattle.records.specs.Order.{c_component}
@@ -8,12 +8,8 @@ use Rattle.entries.proofs.numbered.Goals as goal
 
 pub returns-then-r-eq67 : goal.returns-then-r-eq67
 unfolding numbered
-returns-then-r-eq67 c =
-    let read = c.fields-r in
-    rw (sym read.ensures, eq-eqb read.result.kind c_component c.if-r-eq67.true) (omega arith)
+returns-then-r-eq67 c = rw (eq-eqb c.args.r.kind c_component c.if-r-eq67.true) (omega arith)
 
 pub returns : goal.returns
 unfolding numbered
-returns c =
-    let read = c.fields-r in
-    rw (sym read.ensures, ne_eqb read.result.kind c_component c.if-r-eq67.false) refl
+returns c = rw (ne_eqb c.args.r.kind c_component c.if-r-eq67.false) refl

@@ -51,29 +51,11 @@ bounds-weightings-i c =
     let within : c.loop-i.i < 2048 = omega (arith, c.loop-i.invariant.1, c.loop-i-test.true) in
     within
 
-pub offset_bounds-entries-i-in-loop-i : goal.offset_bounds-entries-i-in-loop-i
-offset_bounds-entries-i-in-loop-i c =
-    let within : c.loop-i.i < 2048 = omega (arith, c.loop-i.invariant.1, c.loop-i-test.true) in
-    record { fits = omega (arith, within) }
-
-pub bounds-entries-i-in-loop-i : goal.bounds-entries-i-in-loop-i
-bounds-entries-i-in-loop-i c =
-    let within : c.loop-i.i < 2048 = omega (arith, c.loop-i.invariant.1, c.loop-i-test.true) in
-    within
-
-pub overflow_add-i : goal.overflow_add-i
-overflow_add-i c =
-    let within : c.loop-i.i < 2048 = omega (arith, c.loop-i.invariant.1, c.loop-i-test.true) in
-    omega (arith, within)
-
-pub loop-i-smaller : goal.loop-i-smaller
-loop-i-smaller c = omega (arith, c.loop-i-test.true)
-
 pub loop-i-preserved : goal.loop-i-preserved
 loop-i-preserved c =
     let within : c.loop-i.i < 2048 = omega (arith, c.loop-i.invariant.1, c.loop-i-test.true) in
     let l = c.loop-i in
-    (omega (arith, c.loop-i-test.true), l.invariant.1, rw c.telling.ensures (told_next l.invariant.2 within))
+    (omega (arith, c.loop-i-test.true), l.invariant.1, rw c.from.ensures (told_next l.invariant.2 within))
 
 pub returns : goal.returns
 returns c =
