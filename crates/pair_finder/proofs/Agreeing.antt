@@ -14,8 +14,8 @@ use Rattle.terms.specs.Kept.{TermAt}
 use Rattle.pairs.specs.Arcs.{may_reach, compatible, Meeting, a_meeting, meetings, agrees, all_agree}
 use Rattle.pair_finder.specs.Walking.{Walkable, TwoTerms, Reaching, NextMeeting, MeetingAt}
 use Rattle.pair_finder.proofs.Kept.{term_within}
-use Rattle.pair_finder.proofs.Walks.{ToWalk, at_hand, other_there, walk_ends}
-use Rattle.pair_finder.proofs.Gathering.{Met, AtMeeting, gather_ends, gather_meets}
+use Rattle.pair_finder.proofs.Walks.{ToWalk, at_hand, other_there}
+use Rattle.pair_finder.proofs.Gathering.{Met, AtMeeting, gather_meets}
 
 -- the first list may reach the other, and the answer is F of what the other's variables meet in it
 abbrev pub Owed : (List Meeting → Bool) → System → (answer : Bool) → Tree → Tree → Type 0
@@ -25,11 +25,6 @@ Owed F p r ts us = (may_reach p ts us ≡ true) × (r ≡ F (meetings p ts us))
 
 module _ (F : List Meeting → Bool) {ar ms ns : List ℕ} {u end v : ℕ} (o : Walkable ar ms ns ns u end v) (answer : Bool) (i k : ℕ)
     (t : ToWalk o.system ar ms ns ns end (Owed F o.system answer) i k) where
-  -- nothing is left
-  pub owed_at_end : end ≤ i → answer ≡ F []
-  unfolding meetings
-  owed_at_end h = (walk_ends o.system ar ms ns ns end (Owed F o.system answer) i k t h).1
-
   pub still_reaching : Reaching ar ms ns i end k
   still_reaching =
       record {
@@ -47,6 +42,11 @@ module _ (F : List Meeting → Bool) {ar ms ns : List ℕ} {u end v : ℕ} (o : 
         reaches = t.known.0;
       }
 
+  -- nothing more is met
+  pub none_left : ((w : Reaching ar ms ns i end k) → meetings w.walk.system w.walk.first w.walk.other ≡ []) → answer ≡ F []
+  unfolding still_reaching
+  none_left said = t.known.1 ∙ ap F (said still_reaching)
+
   -- the next meeting is at x and y
   module _ (x y : ℕ) (said : (w : Reaching ar ms ns i end k) → NextMeeting w.walk.system ar ms ns i end w.walk.first w.walk.other x y) where
     next : NextMeeting o.system ar ms ns i end t.firsts t.others x y
@@ -59,34 +59,33 @@ module _ (F : List Meeting → Bool) {ar ms ns : List ℕ} {u end v : ℕ} (o : 
     pub next_later : i ≤ x
     next_later = next.later
 
-    pub none_left : end ≤ x → answer ≡ F []
-    none_left h = t.known.1 ∙ ap F (gather_ends _ _ _ _ _ _ _ x y there h)
+    pub next_inside : x < end
+    next_inside = next.inside
 
-    module _ (h : x < end) where
-      pub meets : AtMeeting o.system ar ms ns ns end (meetings o.system t.firsts t.others) x y
-      meets = gather_meets _ _ _ _ _ _ _ x y there h (next.closed h) (next.variable h)
+    pub meets : AtMeeting o.system ar ms ns ns end (meetings o.system t.firsts t.others) x y
+    meets = gather_meets _ _ _ _ _ _ _ x y there next.inside next.closed next.variable
 
-      pub owed : answer ≡ F (a_meeting meets.variable meets.met ∷ meetings o.system meets.firsts meets.others)
-      owed = t.known.1 ∙ ap F meets.first_met
+    pub owed : answer ≡ F (a_meeting meets.variable meets.met ∷ meetings o.system meets.firsts meets.others)
+    owed = t.known.1 ∙ ap F meets.first_met
 
-      -- a term is kept at each place
-      pub other_within : y < length ns
-      other_within = term_within _ _ _ (other_there _ _ _ _ _ _ _ x y (at_hand _ _ _ _ _ _ _ x y there h))
+    -- a term is kept at each place
+    pub other_within : y < length ns
+    other_within = term_within _ _ _ (other_there _ _ _ _ _ _ _ x y (at_hand _ _ _ _ _ _ _ x y there next.inside))
 
-      pub met_there : TermAt ar ns x
-      met_there =
-          record {
-            system = o.system;
-            term = meets.met;
-            arities_are = o.lists.arities_are;
-            arities_few = o.lists.arities_few;
-            is = meets.is;
-            kept = meets.kept;
-          }
+    pub met_there : TermAt ar ns x
+    met_there =
+        record {
+          system = o.system;
+          term = meets.met;
+          arities_are = o.lists.arities_are;
+          arities_few = o.lists.arities_few;
+          is = meets.is;
+          kept = meets.kept;
+        }
 
-      pub meeting_passed : (m : ℕ) → ((s : TermAt ar ns x) → m ≡ x + length (flat s.term)) → answer ≡ F (meetings o.system meets.firsts meets.others) →
-          ToWalk o.system ar ms ns ns end (Owed F o.system answer) m (y + 1)
-      meeting_passed m ends e = record { firsts = meets.firsts; others = meets.others; lists = meets.lists m ends; known = (meets.reaches, e) }
+    pub meeting_passed : (m : ℕ) → ((s : TermAt ar ns x) → m ≡ x + length (flat s.term)) → answer ≡ F (meetings o.system meets.firsts meets.others) →
+        ToWalk o.system ar ms ns ns end (Owed F o.system answer) m (y + 1)
+    meeting_passed m ends e = record { firsts = meets.firsts; others = meets.others; lists = meets.lists m ends; known = (meets.reaches, e) }
 
 -- variables are the same exactly if their bytes are
 same_byte : (x y c d : ℕ) → c ≡ 64 + x → d ≡ 64 + y → eqb x y ≡ eqb c d

@@ -99,10 +99,10 @@ module _ (p : System) (ar ms ns os : List ℕ) (end : ℕ) (all : List Meeting) 
             s.known.1 ∙ rw (constructor, joined_meetings p step s.ts s.us),
           )
 
--- where the walk has come to a variable that meets a closed term, or to the end
+-- where the walk has come to a variable that meets a closed term
 pub walk_comes : (p : System) (ar ms ns : List ℕ) (u end : ℕ) (ts us : Tree) (i k : ℕ) → ToWalk p ar ms ns ns end (Met p (meetings p ts us)) i k → u ≤ i →
-    (i < end → is_open ms (get_or ns i 0) ≡ false) → (i < end → 64 ≤ get_or ns k 0) → NextMeeting p ar ms ns u end ts us i k
-walk_comes p ar ms ns u end ts us i k w later closed variable =
+    i < end → is_open ms (get_or ns i 0) ≡ false → 64 ≤ get_or ns k 0 → NextMeeting p ar ms ns u end ts us i k
+walk_comes p ar ms ns u end ts us i k w later inside closed variable =
     record {
       firsts = w.firsts;
       others = w.others;
@@ -110,6 +110,7 @@ walk_comes p ar ms ns u end ts us i k w later closed variable =
       reaches = w.known.0;
       same = w.known.1;
       later = later;
+      inside = inside;
       closed = closed;
       variable = variable;
     }

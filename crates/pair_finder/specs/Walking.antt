@@ -1,6 +1,6 @@
 -- How the code lists pairs and walks two terms, over a pack as it is kept. The contracts between our own functions speak of
 -- it; no promise to a user does.
-use Rattle.std.specs.Prelude.{◌≡◌, Bool, true, false, ◌&&◌, ◌||◌, not, cond, List, [], ◌∷◌, ◌++◌, map, ℕ, zero, suc, ◌+◌, ◌*◌, ◌≤◌, ◌<◌, ltb, leb, eqb, length, get_or, take, drop, Result}
+use Rattle.std.specs.Prelude.{◌≡◌, Bool, true, false, ◌&&◌, ◌||◌, not, cond, List, [], ◌∷◌, ◌++◌, map, ℕ, zero, suc, ◌+◌, ◌*◌, ◌≤◌, ◌<◌, ltb, leb, eqb, length, get_or, take, drop, Option, None, Some, Result}
 use Rattle.rewriting.specs.Terms.{Tree, System, is_list, is_term, well, width}
 use Rattle.rewriting.specs.Pairs.{Pair, is_pair, defined}
 use Rattle.records.specs.declared.Refusal.{Refusal}
@@ -9,6 +9,7 @@ use Rattle.records.specs.Answers.{outcome_of}
 use Rattle.terms.specs.Sides.{flat}
 use Rattle.terms.specs.Kept.{Kept, part, nodes_room, starts_room, symbols_room, TermAt}
 use Rattle.pack_reader.specs.Stored.{Stored}
+use Rattle.pair_finder.specs.declared.arcs.Places.{Places}
 use Rattle.pairs.specs.Listing.{a_pair, pair_bytes}
 use Rattle.pairs.specs.Arcs.{may_reach, meetings, reach_arc}
 
@@ -97,7 +98,7 @@ pub record Reaching (arities flags nodes : List ℕ) (u end v : ℕ) : Type 0 wh
   pub walk : Walkable arities flags nodes nodes u end v
   pub reaches : may_reach walk.system walk.first walk.other ≡ true
 
--- i and k are where a variable of the second, us, first meets a term of the first, ts, or i is the end: nothing is met before them
+-- i and k are where a variable of the second, us, first meets a term of the first, ts: nothing is met before them
 pub record NextMeeting (p : System) (arities flags nodes : List ℕ) (u end : ℕ) (ts us : Tree) (i k : ℕ) : Type 0 where
   pub firsts : Tree
   pub others : Tree
@@ -105,8 +106,14 @@ pub record NextMeeting (p : System) (arities flags nodes : List ℕ) (u end : �
   pub reaches : may_reach p firsts others ≡ true
   pub same : meetings p ts us ≡ meetings p firsts others
   pub later : u ≤ i
-  pub closed : i < end → is_open flags (get_or nodes i 0) ≡ false
-  pub variable : i < end → 64 ≤ get_or nodes k 0
+  pub inside : i < end
+  pub closed : is_open flags (get_or nodes i 0) ≡ false
+  pub variable : 64 ≤ get_or nodes k 0
+
+-- what `next_meeting` answers: the two places, or that nothing is met
+abbrev pub NextAnswer : System → (arities flags nodes : List ℕ) → (u end : ℕ) → (ts us : Tree) → Option Places → Type 0
+NextAnswer p ar ms ns u end ts us None = meetings p ts us ≡ []
+NextAnswer p ar ms ns u end ts us (Some m) = NextMeeting p ar ms ns u end ts us m.first m.other
 
 -- such lists, and a term kept from `at` up to the first of them, which the variable with the byte d meets
 pub record MeetingAt (arities flags nodes : List ℕ) (at d u end v : ℕ) : Type 0 where

@@ -5,48 +5,36 @@ ghost use Rattle.terms.specs.Kept.{symbols_room};
 ghost use Rattle.pack_reader.specs.Stored.{Stored};
 ghost use Rattle.pairs.specs.Listing.{a_pair};
 ghost use Rattle.pairs.specs.Arcs.{may_meet, compatible, a_meeting, meetings, agrees, all_agree, arc, reach_arc};
-ghost use Rattle.pair_finder.specs.Walking.{is_open, jumps, enters, Walkable, TwoTerms, Reaching, NextMeeting, MeetingAt, Laid, ArcAsked, ArcToAsked, ArcReached, PlaceAnswer};
+ghost use Rattle.pair_finder.specs.Walking.{is_open, jumps, enters, Walkable, TwoTerms, Reaching, NextAnswer, MeetingAt, Laid, ArcAsked, ArcToAsked, ArcReached, PlaceAnswer};
 
 use records::Refusal;
 use terms::FIRST_VARIABLE;
 
 // A node at which the first term of a walk is open: a variable, or a defined symbol.
+#[tactic(auto, unfolding(crate::specs::Walking::is_open))]
 fn is_open(defined: &[u8], c: u8) -> bool
     requires { length defined.now ≡ symbols_room }
     ensures { result ≡ is_open defined.now c }
 {
-    if FIRST_VARIABLE <= c {
-        return true;
-    }
-    crate::listing::is_defined(defined, c)
+    FIRST_VARIABLE <= c || crate::listing::is_defined(defined, c)
 }
 
 // The walk skips a term on either side.
+#[tactic(auto, unfolding(crate::specs::Walking::jumps))]
 fn jumps(defined: &[u8], both: bool, c: u8, d: u8) -> bool
     requires { length defined.now ≡ symbols_room }
     ensures { result ≡ jumps defined.now both c d }
 {
-    if FIRST_VARIABLE <= d {
-        return true;
-    }
-    if is_open(defined, c) {
-        return true;
-    }
-    if !both {
-        return false;
-    }
-    crate::listing::is_defined(defined, d)
+    FIRST_VARIABLE <= d || is_open(defined, c) || both && crate::listing::is_defined(defined, d)
 }
 
 // The walk goes one node on on both sides: the same constructor stands there.
+#[tactic(auto, unfolding(crate::specs::Walking::enters))]
 fn enters(defined: &[u8], both: bool, c: u8, d: u8) -> bool
     requires { length defined.now ≡ symbols_room }
     ensures { result ≡ enters defined.now both c d }
 {
-    if c != d {
-        return false;
-    }
-    !jumps(defined, both, c, d)
+    c == d && !jumps(defined, both, c, d)
 }
 
 // Each argument of the one list, kept from u to `end`, may meet the argument of the other, kept from v on. A defined root leaves a
@@ -69,8 +57,8 @@ fn may_meet(
         let c = nodes[i];
         let d = nodes[k];
         if enters(defined, both, c, d) {
-            i = i + 1;
-            k = k + 1;
+            i += 1;
+            k += 1;
         } else {
             if !jumps(defined, both, c, d) {
                 return false;
@@ -97,10 +85,7 @@ fn fits(
     requires { TwoTerms arities.now defined.now nodes.now a end b }
     ensures { (w : TwoTerms arities.now defined.now nodes.now a end b) → result ≡ (not (eqb other variable) || compatible w.system w.first w.other) }
 {
-    if other != variable {
-        return true;
-    }
-    may_meet(arities, defined, nodes, true, a, end, b)
+    other != variable || may_meet(arities, defined, nodes, true, a, end, b)
 }
 
 // Two places among the nodes: one in the first list of a walk, and one in the other.
@@ -110,8 +95,7 @@ struct Places {
     other: usize,
 }
 
-// Where in the two lists, kept from u to `end` and from v on, a variable of the second first meets a term that is not open; `end`
-// where none does.
+// Where in the two lists, kept from u to `end` and from v on, a variable of the second first meets a term that is not open.
 fn next_meeting(
     arities: &[u8],
     defined: &[u8],
@@ -119,26 +103,25 @@ fn next_meeting(
     u: usize,
     end: usize,
     v: usize,
-) -> Places
+) -> Option<Places>
     requires { Reaching arities.now defined.now nodes.now u end v }
-    ensures { (w : Reaching arities.now defined.now nodes.now u end v) → NextMeeting w.walk.system arities.now defined.now nodes.now u end w.walk.first w.walk.other result.first result.other }
+    ensures { (w : Reaching arities.now defined.now nodes.now u end v) → NextAnswer w.walk.system arities.now defined.now nodes.now u end w.walk.first w.walk.other result }
 {
     let mut i = u;
     let mut k = v;
     while i < end {
-        let c = nodes[i];
-        if is_open(defined, c) {
+        if is_open(defined, nodes[i]) {
             i = terms::skip(arities, nodes, i);
             k = terms::skip(arities, nodes, k);
         } else {
             if FIRST_VARIABLE <= nodes[k] {
-                return Places { first: i, other: k };
+                return Some(Places { first: i, other: k });
             }
-            i = i + 1;
-            k = k + 1;
+            i += 1;
+            k += 1;
         }
     }
-    Places { first: i, other: k }
+    None
 }
 
 // The term kept from `at` to u is compatible with all that its variable, whose byte is `variable`, meets in the two lists.
@@ -157,13 +140,7 @@ fn agrees(
 {
     let mut i = u;
     let mut k = v;
-    while i < end {
-        let met = next_meeting(arities, defined, nodes, i, end, k);
-        let first = met.first;
-        let other = met.other;
-        if end <= first {
-            return true;
-        }
+    while let Some(met) = next_meeting(arities, defined, nodes, i, end, k) {
         if !fits(
             arities,
             defined,
@@ -171,13 +148,13 @@ fn agrees(
             at,
             u,
             variable,
-            first,
-            nodes[other],
+            met.first,
+            nodes[met.other],
         ) {
             return false;
         }
-        i = terms::skip(arities, nodes, first);
-        k = other + 1;
+        i = terms::skip(arities, nodes, met.first);
+        k = met.other + 1;
     }
     true
 }
@@ -189,21 +166,15 @@ fn all_agree(arities: &[u8], defined: &[u8], nodes: &[u8], u: usize, end: usize,
 {
     let mut i = u;
     let mut k = v;
-    while i < end {
-        let met = next_meeting(arities, defined, nodes, i, end, k);
-        let first = met.first;
-        let other = met.other;
-        if end <= first {
-            return true;
-        }
-        let next = terms::skip(arities, nodes, first);
-        let after = other + 1;
+    while let Some(met) = next_meeting(arities, defined, nodes, i, end, k) {
+        let next = terms::skip(arities, nodes, met.first);
+        let after = met.other + 1;
         if !agrees(
             arities,
             defined,
             nodes,
-            first,
-            nodes[other],
+            met.first,
+            nodes[met.other],
             next,
             end,
             after,
@@ -229,11 +200,9 @@ pub fn reaches_to(
     requires { ArcToAsked arities.now starts.now nodes.now defined.now right end other }
     ensures { (a : ArcAsked arities.now starts.now nodes.now defined.now right other) → result ≡ reach_arc a.kept.system a.pair (a_pair other 0) }
 {
-    let left = starts[2 * other] as usize;
-    if nodes[right] != nodes[left] {
-        return false;
-    }
-    may_meet(arities, defined, nodes, false, right + 1, end, left + 1)
+    let left = usize::from(starts[2 * other]);
+    nodes[right] == nodes[left]
+        && may_meet(arities, defined, nodes, false, right + 1, end, left + 1)
 }
 
 // Where it does, an arc runs if all that the variables of the left side meet agrees.
@@ -249,7 +218,7 @@ pub fn agrees_to(
     requires { ArcReached arities.now starts.now nodes.now defined.now right end other }
     ensures { (a : ArcReached arities.now starts.now nodes.now defined.now right end other) → result ≡ arc a.ended.asked.kept.system a.ended.asked.pair (a_pair other 0) }
 {
-    let left = starts[2 * other] as usize;
+    let left = usize::from(starts[2 * other]);
     all_agree(arities, defined, nodes, right + 1, end, left + 1)
 }
 
@@ -266,10 +235,8 @@ pub fn arc_to(
     requires { ArcToAsked arities.now starts.now nodes.now defined.now right end other }
     ensures { (a : ArcAsked arities.now starts.now nodes.now defined.now right other) → result ≡ arc a.kept.system a.pair (a_pair other 0) }
 {
-    if !reaches_to(arities, starts, nodes, defined, right, end, other) {
-        return false;
-    }
-    agrees_to(arities, starts, nodes, defined, right, end, other)
+    reaches_to(arities, starts, nodes, defined, right, end, other)
+        && agrees_to(arities, starts, nodes, defined, right, end, other)
 }
 
 // The same where the end is not known yet. It has the check for its only caller, and does not call `arc_to`, so that it is built
@@ -286,10 +253,8 @@ pub fn arc_from(
     ensures { (a : ArcAsked arities.now starts.now nodes.now defined.now right other) → result ≡ arc a.kept.system a.pair (a_pair other 0) }
 {
     let end = terms::skip(arities, nodes, right);
-    if !reaches_to(arities, starts, nodes, defined, right, end, other) {
-        return false;
-    }
-    agrees_to(arities, starts, nodes, defined, right, end, other)
+    reaches_to(arities, starts, nodes, defined, right, end, other)
+        && agrees_to(arities, starts, nodes, defined, right, end, other)
 }
 
 // Where among the nodes the right side of a pair is kept, or 7.
@@ -307,8 +272,8 @@ pub fn place_of(
     if rules <= rule {
         return Err(Refusal::NoSuchPair);
     }
-    let from = starts[2 * rule + 1] as usize;
-    let to = starts[2 * rule + 2] as usize;
+    let from = usize::from(starts[2 * rule + 1]);
+    let to = usize::from(starts[2 * rule + 2]);
     if to - from <= place {
         return Err(Refusal::NoSuchPair);
     }

@@ -8,15 +8,13 @@ use records::Record;
 use terms::MOST_SYMBOLS;
 
 // The node applies a defined symbol.
+#[tactic(auto, unfolding(crate::specs::Walking::is_defined))]
 pub fn is_defined(defined: &[u8], code: u8) -> bool
     requires { length defined.now ≡ symbols_room }
     ensures { result ≡ is_defined defined.now code }
 {
-    let c = code as usize;
-    if c < MOST_SYMBOLS {
-        return defined[c] == 1;
-    }
-    false
+    let c = usize::from(code);
+    c < MOST_SYMBOLS && defined[c] == 1
 }
 
 // How many nodes of a side apply a defined symbol.
@@ -25,12 +23,10 @@ fn count_in(nodes: &[u8], defined: &[u8], from: usize, to: usize) -> usize
     ensures { result ≡ length (places defined.now 0 (part nodes.now from to)) }
 {
     let mut n = 0;
-    let mut i = from;
-    while i < to {
+    for i in from..to {
         if is_defined(defined, nodes[i]) {
-            n = n + 1;
+            n += 1;
         }
-        i = i + 1;
     }
     n
 }
@@ -41,16 +37,10 @@ pub fn count_pairs(starts: &[u16], nodes: &[u8], defined: &[u8], rules: usize) -
     ensures { result ≡ length (first_pairs starts.now nodes.now defined.now rules) }
 {
     let mut n = 0;
-    let mut i = 0;
-    while i < rules {
-        n = n
-            + count_in(
-                nodes,
-                defined,
-                starts[2 * i + 1] as usize,
-                starts[2 * i + 2] as usize,
-            );
-        i = i + 1;
+    for i in 0..rules {
+        let from = usize::from(starts[2 * i + 1]);
+        let to = usize::from(starts[2 * i + 2]);
+        n += count_in(nodes, defined, from, to);
     }
     n
 }
@@ -69,8 +59,7 @@ fn write_in(
     ensures { Written at (map (a_pair rule) (places defined.now 0 (part nodes.now from to))) result list.old list.new }
 {
     let mut next = at;
-    let mut i = from;
-    while i < to {
+    for i in from..to {
         if is_defined(defined, nodes[i]) {
             records::write_record(
                 list,
@@ -83,9 +72,8 @@ fn write_in(
                     c: 0,
                 },
             );
-            next = next + 8;
+            next += 8;
         }
-        i = i + 1;
     }
     next
 }
@@ -96,17 +84,9 @@ pub fn write_pairs(list: &mut [u8], starts: &[u16], nodes: &[u8], defined: &[u8]
     ensures { list.new ≡ pair_bytes (first_pairs starts.now nodes.now defined.now rules) ++ drop (8 * length (first_pairs starts.now nodes.now defined.now rules)) list.old }
 {
     let mut at = 0;
-    let mut i = 0;
-    while i < rules {
-        at = write_in(
-            list,
-            at,
-            i,
-            nodes,
-            defined,
-            starts[2 * i + 1] as usize,
-            starts[2 * i + 2] as usize,
-        );
-        i = i + 1;
+    for i in 0..rules {
+        let from = usize::from(starts[2 * i + 1]);
+        let to = usize::from(starts[2 * i + 2]);
+        at = write_in(list, at, i, nodes, defined, from, to);
     }
 }

@@ -4,9 +4,9 @@ use Rattle.pair_finder.specs.Walking.{MeetingAt}
 use Rattle.pair_finder.proofs.Agreeing.{ToAgree}
 use Rattle.pair_finder.proofs.arcs.agrees.Given as goal
 
-abbrev pub invariant-loop-i : goal.invariant-loop-i
-invariant-loop-i l =
+abbrev pub invariant-loop-met : goal.invariant-loop-met
+invariant-loop-met l =
     (m : MeetingAt l.arities l.defined l.nodes l.at l.variable l.u l.end l.v) → ToAgree l.arities l.defined l.nodes l.at l.variable l.u l.end l.v m l.i l.k
 
-abbrev pub decreases-loop-i : goal.decreases-loop-i
-decreases-loop-i l = l.end - l.i
+abbrev pub decreases-loop-met : goal.decreases-loop-met
+decreases-loop-met l = l.end - l.i

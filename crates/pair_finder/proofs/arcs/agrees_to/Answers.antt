@@ -1,12 +1,11 @@
 -- `pair_finder::arcs::agrees_to` meets its contract: where the arguments may reach each other, what their variables meet decides.
-use Prim.Native.Nat.{◌*◌}
 use native.Mathlib.Omega.{arith}
 use Rattle.pair_finder.proofs.Kept.{term_within}
 use Rattle.pair_finder.proofs.Asked.{other_small, right_at, left_at, to_agree, arc_agreed}
 use Rattle.pair_finder.proofs.arcs.agrees_to.Goals as goal
 
-pub overflow_mul-left : goal.overflow_mul-left
-overflow_mul-left c = omega (arith, other_small _ _ _ _ _ _ c.requires.ended.asked)
+pub overflow_mul-other : goal.overflow_mul-other
+overflow_mul-other c = omega (arith, other_small _ _ _ _ _ _ c.requires.ended.asked)
 
 pub offset_bounds-starts-other : goal.offset_bounds-starts-other
 offset_bounds-starts-other c = omega (arith, other_small _ _ _ _ _ _ c.requires.ended.asked)
@@ -14,17 +13,14 @@ offset_bounds-starts-other c = omega (arith, other_small _ _ _ _ _ _ c.requires.
 pub bounds-starts-other : goal.bounds-starts-other
 bounds-starts-other c = omega (arith, other_small _ _ _ _ _ _ c.requires.ended.asked)
 
-pub overflow_cast-left : goal.overflow_cast-left
-overflow_cast-left c = omega (arith, c.shared_slice_known-5-1.given (2 * c.args.other))
-
 pub overflow_add-right : goal.overflow_add-right
 overflow_add-right c = omega (arith, term_within _ _ _ (right_at _ _ _ _ _ _ c.requires.ended.asked))
 
 pub overflow_add-left : goal.overflow_add-left
-overflow_add-left c = omega (arith, term_within _ _ _ (left_at _ _ _ _ _ _ c.requires.ended.asked))
+overflow_add-left c = omega (arith, c.from-left.ensures, term_within _ _ _ (left_at _ _ _ _ _ _ c.requires.ended.asked))
 
 pub all_agree-requires : goal.all_agree-requires
-all_agree-requires c = to_agree _ _ _ _ _ _ _ c.requires
+all_agree-requires c = rw c.from-left.ensures (to_agree _ _ _ _ _ _ _ c.requires)
 
 pub returns : goal.returns
-returns c = λ a. arc_agreed _ _ _ _ _ _ _ a _ c.all_agree.ensures
+returns c = λ a. arc_agreed _ _ _ _ _ _ _ a _ (rw c.from-left.ensures at c.all_agree.ensures)

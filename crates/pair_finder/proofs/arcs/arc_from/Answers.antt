@@ -13,19 +13,19 @@ skip-end-requires c =
 pub reaches_to-requires : goal.reaches_to-requires
 reaches_to-requires c = record { asked = c.requires; ends = c.skip-end.ensures }
 
-pub returns-then-not-reaches_to : goal.returns-then-not-reaches_to
-returns-then-not-reaches_to c =
-    λ a. sym (not_reached _ _ _ _ _ _ a (sym (c.reaches_to.ensures a) ∙ c.if-not-reaches_to.true))
+pub returns-else-reaches_to : goal.returns-else-reaches_to
+returns-else-reaches_to c =
+    λ a. c.if-reaches_to.false ∙ sym (not_reached _ _ _ _ _ _ a (sym (c.reaches_to.ensures a) ∙ c.if-reaches_to.false))
 
 pub agrees_to-requires : goal.agrees_to-requires
 agrees_to-requires c =
     let a = c.requires in
-    record { ended = record { asked = a; ends = c.skip-end.ensures }; reached = sym (c.reaches_to.ensures a) ∙ c.if-not-reaches_to.false }
+    record { ended = record { asked = a; ends = c.skip-end.ensures }; reached = sym (c.reaches_to.ensures a) ∙ c.if-reaches_to.true }
 
-pub returns : goal.returns
-returns c =
+pub returns-then-reaches_to : goal.returns-then-reaches_to
+returns-then-reaches_to c =
     λ a. c.agrees_to.ensures
     (record {
       ended = record { asked = a; ends = c.skip-end.ensures };
-      reached = sym (c.reaches_to.ensures a) ∙ c.if-not-reaches_to.false;
+      reached = sym (c.reaches_to.ensures a) ∙ c.if-reaches_to.true;
     })

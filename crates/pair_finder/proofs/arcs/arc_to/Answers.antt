@@ -6,17 +6,17 @@ use Rattle.pair_finder.proofs.arcs.arc_to.Goals as goal
 pub reaches_to-requires : goal.reaches_to-requires
 reaches_to-requires c = c.requires
 
-pub returns-then-not-reaches_to : goal.returns-then-not-reaches_to
-returns-then-not-reaches_to c =
-    λ a. sym (not_reached _ _ _ _ _ _ a (sym (c.reaches_to.ensures a) ∙ c.if-not-reaches_to.true))
+pub returns-else-reaches_to : goal.returns-else-reaches_to
+returns-else-reaches_to c =
+    λ a. c.if-reaches_to.false ∙ sym (not_reached _ _ _ _ _ _ a (sym (c.reaches_to.ensures a) ∙ c.if-reaches_to.false))
 
 pub agrees_to-requires : goal.agrees_to-requires
 agrees_to-requires c =
     let asked = c.requires in
-    record { ended = asked; reached = sym (c.reaches_to.ensures asked.asked) ∙ c.if-not-reaches_to.false }
+    record { ended = asked; reached = sym (c.reaches_to.ensures asked.asked) ∙ c.if-reaches_to.true }
 
-pub returns : goal.returns
-returns c =
+pub returns-then-reaches_to : goal.returns-then-reaches_to
+returns-then-reaches_to c =
     λ a. let asked = c.requires in
     c.agrees_to.ensures
-    (record { ended = record { asked = a; ends = asked.ends }; reached = sym (c.reaches_to.ensures a) ∙ c.if-not-reaches_to.false })
+    (record { ended = record { asked = a; ends = asked.ends }; reached = sym (c.reaches_to.ensures a) ∙ c.if-reaches_to.true })

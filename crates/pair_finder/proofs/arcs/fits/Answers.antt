@@ -9,5 +9,5 @@ returns-then-other-variable c = λ w. rw (ne_eqb _ _ c.if-other-variable.true)
 pub may_meet-requires : goal.may_meet-requires
 may_meet-requires c = terms_walkable _ _ _ _ _ _ c.requires
 
-pub returns : goal.returns
-returns c = λ w. rw (eq-eqb _ _ c.if-other-variable.false) (terms_compared _ _ _ _ _ _ w _ c.may_meet.ensures)
+pub returns-else-other-variable : goal.returns-else-other-variable
+returns-else-other-variable c = λ w. rw (eq-eqb _ _ c.if-other-variable.false) (terms_compared _ _ _ _ _ _ w _ c.may_meet.ensures)

@@ -4,7 +4,7 @@ use native.Mathlib.Omega.{arith}
 use Rattle.terms.specs.Kept.{TermAt}
 use Rattle.pair_finder.proofs.Kept.{term_within, term_passed}
 use Rattle.pair_finder.proofs.Walks.{at_hand, first_there, other_there}
-use Rattle.pair_finder.proofs.Gathering.{gather_skips, gather_enters, walk_comes}
+use Rattle.pair_finder.proofs.Gathering.{gather_ends, gather_skips, gather_enters, walk_comes}
 use Rattle.pair_finder.proofs.arcs.next_meeting.Goals as goal
 
 pub loop-i-init : goal.loop-i-init
@@ -61,7 +61,8 @@ pub returns-then-nodes-k-ge-FIRST_VARIABLE : goal.returns-then-nodes-k-ge-FIRST_
 returns-then-nodes-k-ge-FIRST_VARIABLE c =
     λ w.
     let l = c.loop-i in
-    walk_comes _ _ _ _ _ _ _ _ l.i l.k (l.invariant.1 w) l.invariant.0 (λ _. sym c.is_open.ensures ∙ c.if-is_open.false) (λ _. c.if-nodes-k-ge-FIRST_VARIABLE.true)
+    walk_comes _ _ _ _ _ _ _ _ l.i l.k (l.invariant.1 w) l.invariant.0 c.loop-i-test.true (sym c.is_open.ensures ∙ c.if-is_open.false)
+    c.if-nodes-k-ge-FIRST_VARIABLE.true
 
 pub overflow_add-i : goal.overflow_add-i
 overflow_add-i c =
@@ -85,8 +86,4 @@ loop-i-preserved c =
     )
 
 pub returns : goal.returns
-returns c =
-    λ w.
-    let l = c.loop-i in
-    let past = c.loop-i-test.false in
-    walk_comes _ _ _ _ _ _ _ _ l.i l.k (l.invariant.1 w) l.invariant.0 (λ h. absurd (omega (arith, past))) (λ h. absurd (omega (arith, past)))
+returns c = λ w. let l = c.loop-i in gather_ends _ _ _ _ _ _ _ l.i l.k (l.invariant.1 w) c.loop-i-test.false

@@ -12,18 +12,10 @@ pub loop-i-init : goal.loop-i-init
 unfolding first_pairs
 loop-i-init c = (omega arith, omega arith, refl)
 
-pub overflow_cast-starts : goal.overflow_cast-starts
-unfolding first_pairs
-overflow_cast-starts c = omega (arith, c.shared_slice_known-in-loop-i-1.given (2 * c.loop-i.i + 1))
-
-pub overflow_cast-starts-in-loop-i : goal.overflow_cast-starts-in-loop-i
-unfolding first_pairs
-overflow_cast-starts-in-loop-i c = omega (arith, c.shared_slice_known-in-loop-i-2-1.given (2 * c.loop-i.i + 2))
-
 pub count_in-n-requires : goal.count_in-n-requires
 count_in-n-requires c =
     let l = c.loop-i in
-    (c.requires.0.rises l.i c.loop-i-test.true, c.requires.0.within l.i c.loop-i-test.true, c.requires.1)
+    rw (c.from-from.ensures, c.from-to.ensures) (c.requires.0.rises l.i c.loop-i-test.true, c.requires.0.within l.i c.loop-i-test.true, c.requires.1)
 
 pub overflow_add-n : goal.overflow_add-n
 unfolding first_pairs
@@ -33,7 +25,7 @@ overflow_add-n c =
       arith,
       part_places_few c.args.defined.now c.args.nodes.now (get_or c.args.starts.now (2 * l.i + 1) 0) (get_or c.args.starts.now (2 * l.i + 2) 0),
       c.requires.0.short l.i c.loop-i-test.true,
-      c.count_in-n.ensures,
+      rw (c.from-from.ensures, c.from-to.ensures) at c.count_in-n.ensures,
     ) in
     omega (arith, few)
 
@@ -44,12 +36,12 @@ loop-i-preserved c =
       arith,
       part_places_few c.args.defined.now c.args.nodes.now (get_or c.args.starts.now (2 * l.i + 1) 0) (get_or c.args.starts.now (2 * l.i + 2) 0),
       c.requires.0.short l.i c.loop-i-test.true,
-      c.count_in-n.ensures,
+      rw (c.from-from.ensures, c.from-to.ensures) at c.count_in-n.ensures,
     ) in
     let l = c.loop-i in
     let rest = rule_pairs_long c.args.starts.now c.args.nodes.now c.args.defined.now l.i in
     let more = first_more_long c.args.starts.now c.args.nodes.now c.args.defined.now l.i in
-    (omega arith, omega (arith, few), omega (arith, c.count_in-n.ensures))
+    (omega arith, omega (arith, few), omega (arith, rw (c.from-from.ensures, c.from-to.ensures) at c.count_in-n.ensures))
 
 pub returns : goal.returns
 returns c =

@@ -1,13 +1,10 @@
 -- `pair_finder::listing::count_pairs` meets its contract. The loop's invariant: the pairs of the first i rules are counted, and they
 -- are at most 32 a rule.
 use mathlib.Core.Path.{◌≡◌}
-use Prim.Native.Nat.{◌*◌, ◌-◌, ◌≤◌}
+use Prim.Native.Nat.{◌*◌, ◌≤◌}
 use lib.ListN.{length}
 use Rattle.pair_finder.specs.Walking.{first_pairs}
 use Rattle.pair_finder.proofs.listing.count_pairs.Given as goal
 
 abbrev pub invariant-loop-i : goal.invariant-loop-i
 invariant-loop-i l = (l.i ≤ l.rules) × (l.n ≤ 32 * l.i) × (l.n ≡ length (first_pairs l.starts l.nodes l.defined l.i))
-
-abbrev pub decreases-loop-i : goal.decreases-loop-i
-decreases-loop-i l = l.rules - l.i

@@ -2,7 +2,7 @@
 -- the pairs at the places left are all pairs of the side.
 use mathlib.Core.Path.{◌≡◌}
 use mathlib.Core.List.{List, ◌++◌, map}
-use Prim.Native.Nat.{ℕ, ◌-◌, ◌≤◌}
+use Prim.Native.Nat.{ℕ, ◌≤◌}
 use lib.ListN.{length}
 use Rattle.rewriting.specs.Pairs.{Pair}
 use Rattle.terms.specs.Kept.{part}
@@ -20,6 +20,3 @@ pub record SoFar (at rule from to : ℕ) (nodes flags before : List ℕ) (next i
 abbrev pub invariant-loop-i : goal.invariant-loop-i
 invariant-loop-i l =
     (l.from ≤ l.i) × (l.i ≤ l.to) × (length l.list ≡ length l.initial.list) × SoFar l.at l.rule l.from l.to l.nodes l.defined l.initial.list l.next l.i l.list
-
-abbrev pub decreases-loop-i : goal.decreases-loop-i
-decreases-loop-i l = l.to - l.i

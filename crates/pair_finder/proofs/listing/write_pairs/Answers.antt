@@ -23,18 +23,10 @@ pub loop-i-init : goal.loop-i-init
 unfolding first_pairs
 loop-i-init c = (omega arith, refl, written_none 0 _)
 
-pub overflow_cast-starts : goal.overflow_cast-starts
-unfolding first_pairs
-overflow_cast-starts c = omega (arith, c.shared_slice_known-in-loop-i-1.given (2 * c.loop-i.i + 1))
-
-pub overflow_cast-starts-in-loop-i : goal.overflow_cast-starts-in-loop-i
-unfolding first_pairs
-overflow_cast-starts-in-loop-i c = omega (arith, c.shared_slice_known-in-loop-i-2-1.given (2 * c.loop-i.i + 2))
-
 pub write_in-at-requires : goal.write_in-at-requires
 write_in-at-requires c =
     let l = c.loop-i in
-    let laid = c.requires.0 in (
+    let laid = c.requires.0 in rw (c.from-from.ensures, c.from-to.ensures) (
       omega arith,
       laid.rises l.i c.loop-i-test.true,
       laid.short l.i c.loop-i-test.true,
@@ -54,7 +46,7 @@ loop-i-preserved c =
     let l = c.loop-i in (
       omega arith,
       c.write_in-at.auto.list ∙ l.invariant.1,
-      rule_written _ _ _ _ l.list _ l.i l.at c.loop-i-test.true c.requires.2 l.invariant.2 _ _ c.write_in-at.ensures,
+      rule_written _ _ _ _ l.list _ l.i l.at c.loop-i-test.true c.requires.2 l.invariant.2 _ _ (rw (c.from-from.ensures, c.from-to.ensures) at c.write_in-at.ensures),
     )
 
 pub returns : goal.returns

@@ -1,6 +1,6 @@
 -- `pair_finder::listing::write_pairs` meets its contract. The loop's invariant: the records of the first i rules' pairs are written.
 use mathlib.Core.Path.{◌≡◌}
-use Prim.Native.Nat.{◌-◌, ◌≤◌}
+use Prim.Native.Nat.{◌≤◌}
 use lib.ListN.{length}
 use Rattle.pair_finder.specs.Walking.{first_pairs, Written}
 use Rattle.pair_finder.proofs.listing.write_pairs.Given as goal
@@ -8,6 +8,3 @@ use Rattle.pair_finder.proofs.listing.write_pairs.Given as goal
 abbrev pub invariant-loop-i : goal.invariant-loop-i
 invariant-loop-i l =
     (l.i ≤ l.rules) × (length l.list ≡ length l.initial.list) × Written 0 (first_pairs l.starts l.nodes l.defined l.i) l.at l.initial.list l.list
-
-abbrev pub decreases-loop-i : goal.decreases-loop-i
-decreases-loop-i l = l.rules - l.i
