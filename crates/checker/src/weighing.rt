@@ -23,7 +23,7 @@ fn store(table: &mut [u16; CELLS], r: Record, value: u16)
         weights::table::put(table, Symbol(r.a), i, value);
         return;
     }
-    weights::table::put_marked(table, Marked(r.a), i, value);
+    weights::table::put(table, Marked(r.a), i, value);
 }
 
 // Fills the table from the weight records of a kind that stand from record `from` on. Answers the record after them.

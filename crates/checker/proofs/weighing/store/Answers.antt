@@ -12,4 +12,4 @@ returns-then-r-eq87 c =
 pub returns : goal.returns
 returns c =
     let a = c.args in
-    c.put_marked.ensures ∙ ap (λ n. set a.table.now n a.value) (marked_cell a.r.kind a.r.a a.r.b c.if-r-eq87.false)
+    c.put-2.ensures ∙ ap (λ n. set a.table.now n a.value) (marked_cell a.r.kind a.r.a a.r.b c.if-r-eq87.false)
