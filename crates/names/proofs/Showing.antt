@@ -1,20 +1,12 @@
 -- Showing a name byte by byte, in a buffer that grows.
 use mathlib.Core.Path.{◌≡◌, refl, sym, ap, ◌∙◌}
-use mathlib.Core.Bool.{true, false}
 use mathlib.Core.List.{List, [], ◌∷◌, ◌++◌, append_assoc, append-nil}
-use Prim.Native.Nat.{ℕ, ◌+◌, ◌*◌, ◌/◌, ◌%◌, ◌≤◌, ◌<◌}
+use Prim.Native.Nat.{ℕ, ◌+◌, ◌-◌, ◌*◌, ◌≤◌, ◌<◌, min}
 use native.Mathlib.Numerals.{add-one}
 use native.Mathlib.Omega.{arith}
-use lib.ListN.{length, get_or, set, take, length-set}
-use lib.Seq.{take-suc, take_all, take-set-le, get_or-set_same}
-use Rattle.names.specs.Shown.{plain, escaped, shown_byte, shown}
-
--- A BUFFER THAT GROWS
-
--- one byte more
-pub stored : (l : List ℕ) (at c : ℕ) → at < length l → take (at + 1) (set l at c) ≡ take at l ++ (c ∷ [])
-stored l at c h =
-    rw (add-one at, take-suc (set l at c) at 0 (simp length-set h), take-set-le at l at c (omega arith), get_or-set_same l at c 0 h)
+use lib.ListN.{length, get_or, take}
+use lib.Seq.{take-suc, take_all, paste, take-paste}
+use Rattle.names.specs.Shown.{shown_byte, shown}
 
 -- A NAME, BYTE BY BYTE
 
@@ -28,27 +20,13 @@ unfolding shown
 shown_further name i h =
     rw (add-one i, take-suc name i 0 h, shown_append (take i name) (get_or name i 0 ∷ []), append-nil (shown_byte (get_or name i 0)))
 
--- a byte that stands for itself has been put
-pub plain_put : (l m : List ℕ) (at r c : ℕ) → true ≡ plain c → take r m ≡ take at l ++ (c ∷ []) → take r m ≡ take at l ++ shown_byte c
-unfolding shown_byte
-plain_put l m at r c p e = e ∙ ap (λ (x : List ℕ). take at l ++ x) (rw (← p))
-
--- the four bytes of another have been put, one after the other
-pub escape_put : (before after₁ after₂ after₃ after₄ : List ℕ) (c : ℕ) → false ≡ plain c
-    → after₁ ≡ before ++ (92 ∷ []) → after₂ ≡ after₁ ++ ((48 + c / 64) ∷ []) → after₃ ≡ after₂ ++ ((48 + c / 8 % 8) ∷ []) → after₄ ≡ after₃ ++ ((48 + c % 8) ∷ [])
-    → after₄ ≡ before ++ shown_byte c
-unfolding shown_byte escaped
-escape_put before after₁ after₂ after₃ after₄ c p e₁ e₂ e₃ e₄ =
-    rw (
-      ← p,
-      e₄,
-      e₃,
-      e₂,
-      e₁,
-      append_assoc before (92 ∷ []) ((48 + c / 64) ∷ []),
-      append_assoc before (92 ∷ (48 + c / 64) ∷ []) ((48 + c / 8 % 8) ∷ []),
-      append_assoc before (92 ∷ (48 + c / 64) ∷ (48 + c / 8 % 8) ∷ []) ((48 + c % 8) ∷ []),
-    )
+-- bytes for which there is room have been put, all of them
+pub all_put : (d s l : List ℕ) (at r : ℕ) → at + length s ≤ length d → r ≡ at + min (length s) (length d - at) → l ≡ paste d at s (r - at)
+    → take r l ≡ take at d ++ s
+all_put d s l at r room ends puts =
+    let whole : r - at ≡ length s = omega arith in
+    let end : r ≡ at + length s = omega arith in
+    rw (puts, whole, end, take-paste d at s (length s) (omega arith) (omega arith), take_all (length s) s (omega arith))
 
 -- what a name's first i bytes are shown as stands in the buffer, where it has room for all of the name
 pub record SoFar (name before now : List ℕ) (at end i : ℕ) : Type 0 where
@@ -70,6 +48,3 @@ one_more name before now₁ now₂ at end r i h s e n =
           ∙ append_assoc (take at before) (shown (take i name)) (shown_byte (get_or name i 0))
           ∙ ap (λ (x : List ℕ). take at before ++ x) (sym (shown_further name i h));
     }
-
-pub all_told : (name before now : List ℕ) (at end i : ℕ) → length name ≤ i → SoFar name before now at end i → take end now ≡ take at before ++ shown name
-all_told name before now at end i h s = s.told ∙ ap (λ (x : List ℕ). take at before ++ shown x) (take_all i name h)

@@ -41,10 +41,10 @@ impl Console {
 
     // After a write.
     fn note(&self, written: io::Result<()>) -> io::Result<()> {
-        if let Err(error) = written {
-            if error.kind() == ErrorKind::BrokenPipe {
-                self.unread.set(true);
-            }
+        if let Err(error) = written
+            && error.kind() == ErrorKind::BrokenPipe
+        {
+            self.unread.set(true);
         }
         written
     }

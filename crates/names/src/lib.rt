@@ -17,7 +17,7 @@ pub const PATH_MAX: usize = 4096;
 
 const FIRST_PLAIN: u8 = 32;
 
-const BACKSLASH: u8 = 92;
+const BACKSLASH: u8 = b'\\';
 
 const DELETE: u8 = 127;
 
@@ -32,13 +32,6 @@ const WORDS_ROOM: usize = 128;
 
 const LINE_ROOM: usize = TITLE_ROOM + WORDS_ROOM;
 
-pub fn least(a: usize, b: usize) -> usize
-    ensures value { result ≡ min a b }
-    ensures upper_bound { result ≤ b }
-{
-    if a < b { a } else { b }
-}
-
 // Puts src into dst from `at` on, as much as finds room, and answers where it ends.
 pub fn put(src: &[u8], dst: &mut [u8], at: usize) -> usize
     requires { at ≤ length dst.old }
@@ -46,67 +39,47 @@ pub fn put(src: &[u8], dst: &mut [u8], at: usize) -> usize
     ensures puts { dst.new ≡ paste dst.old at src.now (result - at) }
     ensures fits { IsPrefixLen result dst.new }
 {
-    let n = least(src.len(), dst.len() - at);
-    let mut i = 0;
-    while i < n {
-        dst[at + i] = src[i];
-        i += 1;
-    }
-    at + n
+    let n = src.len().min(dst.len() - at);
+    let end = at + n;
+    dst[at..end].copy_from_slice(&src[..n]);
+    end
 }
 
 // Whether a byte stands for itself where it is shown.
+#[tactic(auto, using(std::proofs::lemmas::Bool::Decides::nat_tests), unfolding(crate::specs::Shown::plain))]
 fn is_plain(c: u8) -> bool
     ensures { result ≡ plain c }
 {
-    if c < FIRST_PLAIN {
-        return false;
-    }
-    if c == BACKSLASH {
-        return false;
-    }
-    c != DELETE
-}
-
-// Puts the byte itself into out, and answers where it ends.
-fn push(c: u8, out: &mut [u8], at: usize) -> usize
-    requires { at < length out.old }
-    ensures says { take result out.new ≡ take at out.old ++ (c ∷ []) }
-    ensures ends { result ≡ at + 1 }
-{
-    out[at] = c;
-    at + 1
+    !matches!(c, ..FIRST_PLAIN | BACKSLASH | DELETE)
 }
 
 // Puts one byte of a name into out as it is shown, and answers where it ends.
+#[tactic(auto, using(crate::proofs::Showing::all_put), unfolding(crate::specs::Shown::shown_byte, crate::specs::Shown::escaped))]
 fn put_byte(c: u8, out: &mut [u8], at: usize) -> usize
     requires { at + 4 ≤ length out.old }
     ensures says { take result out.new ≡ take at out.old ++ shown_byte c }
     ensures near { result ≤ at + 4 }
 {
     if is_plain(c) {
-        return push(c, out, at);
+        return put(&[c], out, at);
     }
-    let first = push(BACKSLASH, out, at);
-    let second = push(b'0' + c / 64, out, first);
-    let third = push(b'0' + c / 8 % 8, out, second);
-    push(b'0' + c % 8, out, third)
+    let escape = [BACKSLASH, b'0' + c / 64, b'0' + c / 8 % 8, b'0' + c % 8];
+    put(&escape, out, at)
 }
 
 // Puts the name into out from `at` on as it is shown, as much as finds room, and answers where it ends.
+#[tactic(auto, using(crate::proofs::Showing::none_yet, crate::proofs::Showing::one_more))]
 fn put_name(name: &[u8], out: &mut [u8], at: usize) -> usize
     requires { at ≤ length out.old }
     ensures says { at + 4 * length name.now ≤ length out.old → take result out.new ≡ take at out.old ++ shown name.now }
     ensures fits { IsPrefixLen result out.new }
 {
     let mut end = at;
-    let mut i = 0;
-    while i < name.len() {
+    for c in name {
         if out.len() - end < 4 {
             return end;
         }
-        end = put_byte(name[i], out, end);
-        i += 1;
+        end = put_byte(*c, out, end);
     }
     end
 }
@@ -133,34 +106,38 @@ fn put_line(name: &[u8], words: &[u8], text: &mut [u8]) -> usize
     put(words, text, n)
 }
 
-// Writes the name as it is shown and the words at once, so that lines of programs side by side stay whole.
-pub fn write_line(console: &Console, name: &[u8], words: &[u8]) -> io::Result<()> {
+// Has the name as it is shown and the words written at once, so that lines of programs side by side stay whole.
+fn line_by<W: FnOnce(&[u8]) -> io::Result<()>>(
+    write: W,
+    name: &[u8],
+    words: &[u8],
+) -> io::Result<()>
+    requires { W.IsAlwaysCallable write }
+{
     let mut text = [0u8; LINE_ROOM];
     let n = put_line(name, words, &mut text);
-    console.write_all(&text[..n])
+    write(&text[..n])
+}
+
+// Writes a line to standard output: the name as it is shown, and the words.
+pub fn write_line(console: &Console, name: &[u8], words: &[u8]) -> io::Result<()> {
+    line_by(|line| console.write_all(line), name, words)
 }
 
 // The same to standard error. Where nothing can be written there, nobody can be told.
 pub fn say_line(console: &Console, name: &[u8], words: &[u8]) {
-    let mut text = [0u8; LINE_ROOM];
-    let n = put_line(name, words, &mut text);
-    let _ = console.say(&text[..n]);
+    let _ = line_by(|line| console.say(line), name, words);
 }
 
 // What the C library says of an error of the system, without the number that std puts behind it.
 fn reason(text: &str) -> &str {
-    match text.split_once(" (os error ") {
-        Some((words, _)) => words,
-        None => text,
-    }
+    text.split_once(" (os error ")
+        .map_or(text, |(words, _)| words)
 }
 
 // Writes a line to standard error: the name, a colon and what the error says.
 pub fn fail(console: &Console, name: &[u8], error: io::Error) {
     let said = InlineText::<WORDS_ROOM>::of(error);
-    let mut words = [0u8; WORDS_ROOM];
-    let n = put(b": ", &mut words, 0);
-    let m = put(reason(said.as_str()).as_bytes(), &mut words, n);
-    let end = put(b"\n", &mut words, m);
-    say_line(console, name, &words[..end]);
+    let words = InlineText::<WORDS_ROOM>::of(format_args!(": {}\n", reason(said.as_str())));
+    say_line(console, name, words.as_str().as_bytes());
 }
