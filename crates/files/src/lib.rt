@@ -2,10 +2,9 @@
 // Files and standard input, read so that a failure is told from the end; and files written whole or not at all.
 mod write;
 
-ghost use Rattle.std.specs.Prelude.{◌≡◌, min, length};
+ghost use Rattle.std.specs.Prelude.{◌≡◌};
 ghost use Rattle.std.specs.Io.{ReadsAtMost};
-ghost use Rattle.names.specs.Counts.{IsPrefixLen};
-ghost use Rattle.files.specs.Read.{bytes_read, TakesAll, TakesOnce};
+ghost use Rattle.files.specs.Read.{TakesAll};
 
 use names::{Console, PATH_MAX};
 use std::env::FillError;
@@ -23,65 +22,35 @@ const NAME_TOO_LONG: i32 = 36;
 
 const NO_TEXT: i32 = 84;
 
-// How many bytes stand at the start of the buffer, or why not all could be read.
-#[derive(Clone, Copy)]
-pub enum FileRead {
-    Bytes(usize),
-    Failed(Error),
-}
-
-// How many of buf's bytes were read. It takes buf so that `&buf[..n]` needs no proof of its own.
-pub fn held(r: FileRead, buf: &[u8]) -> usize
-    ensures says { result ≡ min (bytes_read r) (length buf.now) }
-    ensures fits { IsPrefixLen result buf.now }
+// Says by that name why there is no answer, where there is none.
+fn told<T>(console: &Console, name: &[u8], answer: io::Result<T>) -> io::Result<T>
+    ensures { result ≡ answer }
 {
-    match r {
-        FileRead::Bytes(n) => names::least(n, buf.len()),
-        FileRead::Failed(_) => 0,
-    }
+    answer.inspect_err(|error| names::fail(console, name, *error))
 }
 
-// One read to the start of part; 0 bytes are the end of the input.
-pub fn read_once<R: Read>(from: &mut R, part: &mut [u8]) -> FileRead
-    ensures fits { IsPrefixLen (bytes_read result) part.new }
-    ensures takes { TakesOnce (R.remaining from.old) (R.remaining from.new) result part.new }
-{
-    match from.read(part) {
-        Ok(n) => FileRead::Bytes(n),
-        Err(error) => FileRead::Failed(error),
-    }
-}
-
-// Reads until buf is full or the input ends. A read that fails is no end, whatever came before it.
-pub fn read_open<R: Read>(from: &mut R, buf: &mut [u8]) -> FileRead
-    ensures fits { IsPrefixLen (bytes_read result) buf.new }
+// Reads until buf is full or the input ends, and answers how many bytes were read. A read that fails is no end, whatever came before it.
+pub fn read_open<R: Read>(from: &mut R, buf: &mut [u8]) -> io::Result<usize>
+    ensures fits { ReadsAtMost result buf.new }
     ensures takes { TakesAll (R.remaining from.old) (R.remaining from.new) result buf.new }
 {
     let mut done = 0;
     while done < buf.len() {
-        match read_once(from, &mut buf[done..]) {
-            FileRead::Failed(error) => return FileRead::Failed(error),
-            FileRead::Bytes(n) => {
-                if n == 0 {
-                    return FileRead::Bytes(done);
-                }
-                done += n;
-            }
+        let n = from.read(&mut buf[done..])?;
+        if n == 0 {
+            return Ok(done);
         }
+        done += n;
     }
-    FileRead::Bytes(done)
+    Ok(done)
 }
 
 // Reads standard input; says so where it cannot.
-pub fn read_input(console: &Console, buf: &mut [u8]) -> FileRead
-    ensures { IsPrefixLen (bytes_read result) buf.new }
+pub fn read_input(console: &Console, buf: &mut [u8]) -> io::Result<usize>
+    ensures { ReadsAtMost result buf.new }
 {
-    let mut input = console.rt.stdin();
-    let r = read_open(&mut input, buf);
-    if let FileRead::Failed(error) = r {
-        names::fail(console, b"standard input", error);
-    }
-    r
+    let n = read_open(&mut console.rt.stdin(), buf);
+    told(console, b"standard input", n)
 }
 
 // The path as text, which is what std takes; or why no file can be opened by it.
@@ -92,10 +61,7 @@ fn text_of(path: &[u8]) -> io::Result<&str> {
     if path.contains(&0) {
         return Err(Error::from_raw_os_error(INVALID_ARGUMENT));
     }
-    match std::str::from_utf8(path) {
-        Ok(text) => Ok(text),
-        Err(_) => Err(Error::from_raw_os_error(NO_TEXT)),
-    }
+    std::str::from_utf8(path).map_err(|_| Error::from_raw_os_error(NO_TEXT))
 }
 
 // Opens the file at path to read it.
@@ -103,33 +69,45 @@ pub fn open_path(console: &Console, path: &[u8]) -> io::Result<File> {
     File::open(&console.rt, text_of(path)?)
 }
 
-// Reads the file at path, at most as much as buf holds; says so, by name, where it cannot.
-pub fn read_path(console: &Console, path: &[u8], buf: &mut [u8]) -> FileRead
-    ensures { IsPrefixLen (bytes_read result) buf.new }
+// Opens the file at path and reads it.
+fn read_file(console: &Console, path: &[u8], buf: &mut [u8]) -> io::Result<usize>
+    ensures { ReadsAtMost result buf.new }
 {
-    let mut file = match open_path(console, path) {
-        Ok(file) => file,
-        Err(error) => {
-            names::fail(console, path, error);
-            return FileRead::Failed(error);
-        }
-    };
-    let r = read_open(&mut file, buf);
-    if let FileRead::Failed(error) = r {
-        names::fail(console, path, error);
+    read_open(&mut open_path(console, path)?, buf)
+}
+
+// Reads the file at path, at most as much as buf holds; says so, by name, where it cannot.
+pub fn read_path(console: &Console, path: &[u8], buf: &mut [u8]) -> io::Result<usize>
+    ensures { ReadsAtMost result buf.new }
+{
+    let n = read_file(console, path, buf);
+    told(console, path, n)
+}
+
+// The C library's number of what is wrong with an argument.
+fn number(error: FillError) -> i32 {
+    match error {
+        FillError::TooLong => NAME_TOO_LONG,
+        FillError::NotPresent => INVALID_ARGUMENT,
     }
-    r
 }
 
 // Puts argument i at the start of buf, and answers its length. One that is longer leaves its first bytes there.
 pub fn argument(console: &Console, i: usize, buf: &mut [u8]) -> io::Result<usize>
     ensures { ReadsAtMost result buf.new }
 {
-    match console.rt.arg(i, buf) {
-        Ok(n) => Ok(n),
-        Err(FillError::TooLong) => Err(Error::from_raw_os_error(NAME_TOO_LONG)),
-        Err(FillError::NotPresent) => Err(Error::from_raw_os_error(INVALID_ARGUMENT)),
-    }
+    console
+        .rt
+        .arg(i, buf)
+        .map_err(|error| Error::from_raw_os_error(number(error)))
+}
+
+// Puts argument i, the name of a file, at the start of path, and answers its length; says so, by what stands there, where it cannot.
+pub fn path_argument(console: &Console, i: usize, path: &mut [u8; PATH_MAX]) -> io::Result<usize>
+    ensures { ReadsAtMost result path.new }
+{
+    let n = argument(console, i, path);
+    told(console, path, n)
 }
 
 // How many arguments there are, the program's name among them.
@@ -151,25 +129,17 @@ pub fn is_input(console: &Console, i: usize) -> bool {
 // Whether argument i is the word.
 pub fn is_word(console: &Console, i: usize, word: &[u8]) -> bool {
     let mut given = [0u8; 16];
-    match argument(console, i, &mut given) {
-        Ok(n) => &given[..n] == word,
-        Err(_) => false,
-    }
+    argument(console, i, &mut given).is_ok_and(|n| &given[..n] == word)
 }
 
 // Reads the file that argument i names, `-` for standard input; says so where it cannot.
-pub fn read_argument(console: &Console, i: usize, buf: &mut [u8]) -> FileRead
-    ensures { IsPrefixLen (bytes_read result) buf.new }
+pub fn read_argument(console: &Console, i: usize, buf: &mut [u8]) -> io::Result<usize>
+    ensures { ReadsAtMost result buf.new }
 {
     if is_input(console, i) {
         return read_input(console, buf);
     }
     let mut path = [0u8; PATH_MAX];
-    match argument(console, i, &mut path) {
-        Ok(n) => read_path(console, &path[..n], buf),
-        Err(error) => {
-            names::fail(console, &path, error);
-            FileRead::Failed(error)
-        }
-    }
+    let n = path_argument(console, i, &mut path)?;
+    read_path(console, &path[..n], buf)
 }

@@ -2,25 +2,22 @@
 ghost use Rattle.std.specs.Prelude.{◌≡◌, ◌≤◌, length};
 ghost use Rattle.names.specs.Counts.{IsPrefixLen};
 
-use crate::{argument, text_of};
+use crate::{path_argument, text_of, told};
 use names::{Console, PATH_MAX};
 use std::fs::{File, Metadata, OpenOptions};
-use std::io::{ErrorKind, Write};
+use std::io::{Error, ErrorKind, Write};
 use std::os::unix::fs::FileTypeExt;
 use std::random::RandomSource;
 use std::{fs, io};
 
 // Whether the path is a link's. What cannot be looked at cannot be opened either, which tells why.
 fn is_link(console: &Console, path: &str) -> bool {
-    match fs::symlink_metadata(&console.rt, path) {
-        Ok(found) => found.is_symlink(),
-        Err(_) => false,
-    }
+    fs::symlink_metadata(&console.rt, path).is_ok_and(|found| found.is_symlink())
 }
 
-// Says that no file is put in the place of what stands at path.
-fn tell_other(console: &Console, path: &str) {
-    names::say_line(console, path.as_bytes(), b": Not a regular file\n");
+// That no file is put in the place of what stands there.
+fn other() -> Error {
+    Error::other("Not a regular file")
 }
 
 // Whether it is a regular file's, or a disk's node's.
@@ -28,46 +25,30 @@ fn keeps_bytes(found: &Metadata) -> bool {
     found.is_file() || found.file_type().is_block_device()
 }
 
-// Whether what is open at path is a file that another may take the place of. Says so where it is not, once it is closed: where
-// standard error is closed, the file has its number.
-fn is_regular(console: &Console, file: File, path: &str) -> bool {
-    let found = file.metadata();
-    drop(file);
-    match found {
-        Ok(found) => {
-            let regular = keeps_bytes(&found);
-            if !regular {
-                tell_other(console, path);
-            }
-            regular
-        }
-        Err(error) => {
-            names::fail(console, path.as_bytes(), error);
-            false
-        }
+// Closes what was open, and says why where another file may not take its place. It is closed before that is told: where standard error is
+// closed, the file has its number.
+fn expect_regular(file: File) -> io::Result<()> {
+    let found = file.metadata()?;
+    if !keeps_bytes(&found) {
+        return Err(other());
     }
+    Ok(())
 }
 
-// Whether a file may take the place of what stands at path: nothing, or a file that may be read and written, and no link, pipe or
-// terminal. Says so where it may not.
-fn may_replace(console: &Console, path: &str) -> bool {
+// Why a file may not take the place of what stands at path; it may where nothing does, or a file that may be read and written, and no link,
+// pipe or terminal.
+fn expect_replaceable(console: &Console, path: &str) -> io::Result<()> {
     if is_link(console, path) {
-        tell_other(console, path);
-        return false;
+        return Err(other());
     }
     match OpenOptions::new()
         .read(true)
         .write(true)
         .open(&console.rt, path)
     {
-        Ok(file) => is_regular(console, file, path),
-        Err(error) => {
-            if error.kind() == ErrorKind::NotFound {
-                return true;
-            }
-            names::fail(console, path.as_bytes(), error);
-            false
-        }
+        Ok(file) => expect_regular(file),
+        Err(error) if error.kind() == ErrorKind::NotFound => Ok(()),
+        Err(error) => Err(error),
     }
 }
 
@@ -82,17 +63,11 @@ fn letter(x: u8) -> u8
 fn suffix(console: &Console) -> [u8; 7]
     ensures { 7 ≡ length result }
 {
-    let mut x = [0u8; 6];
+    let mut x = [0u8; 7];
     let _ = console.rt.fill_bytes(&mut x);
-    [
-        b'.',
-        letter(x[0]),
-        letter(x[1]),
-        letter(x[2]),
-        letter(x[3]),
-        letter(x[4]),
-        letter(x[5]),
-    ]
+    let mut end = x.map(letter);
+    end[0] = b'.';
+    end
 }
 
 // Puts the name of a file beside path at the start of name. One that is cut fills the 4,096 bytes, and no path is so long.
@@ -104,39 +79,22 @@ fn beside(console: &Console, path: &[u8], name: &mut [u8; PATH_MAX]) -> usize
     names::put(&end, name, n)
 }
 
-// Writes the bytes to the new file, down to the disk, and closes it; says so, by path, where it cannot. Of closing std tells no error, and
-// what is on the disk by then stays there.
-fn fill(console: &Console, mut file: File, bytes: &[u8], path: &str) -> bool {
-    if let Err(error) = file.write_all(bytes) {
-        names::fail(console, path.as_bytes(), error);
-        return false;
-    }
-    if let Err(error) = file.sync_all() {
-        names::fail(console, path.as_bytes(), error);
-        return false;
-    }
-    true
+// Writes the bytes to the new file, down to the disk, and closes it. Of closing std tells no error, and what is on the disk by then stays
+// there.
+fn fill(mut file: File, bytes: &[u8]) -> io::Result<()> {
+    file.write_all(bytes)?;
+    file.sync_all()
 }
 
-// Gives the file `from` the name path; says so where it cannot.
-fn name_it(console: &Console, from: &str, path: &str) -> bool {
-    if let Err(error) = fs::rename(&console.rt, from, path) {
-        names::fail(console, path.as_bytes(), error);
-        return false;
-    }
-    true
+// Fills the new file of that name and gives it the name path.
+fn finish(console: &Console, file: File, name: &str, path: &str, bytes: &[u8]) -> io::Result<()> {
+    fill(file, bytes)?;
+    fs::rename(&console.rt, name, path)
 }
 
 // Removes the file; says so where it stays.
 fn remove(console: &Console, name: &str) {
-    if let Err(error) = fs::remove_file(&console.rt, name) {
-        names::fail(console, name.as_bytes(), error);
-    }
-}
-
-// Fills the new file and gives it the name path.
-fn finish(console: &Console, file: File, name: &str, path: &str, bytes: &[u8]) -> bool {
-    fill(console, file, bytes, path) && name_it(console, name, path)
+    let _ = told(console, name.as_bytes(), fs::remove_file(&console.rt, name));
 }
 
 // Makes a file of that name, where nothing has it yet.
@@ -148,58 +106,35 @@ fn create(console: &Console, name: &str) -> io::Result<File> {
 }
 
 // Writes the bytes to a new file of that name, which then takes the name path. Where it cannot it says so, by path, and leaves no file.
-fn replace(console: &Console, name: &str, path: &str, bytes: &[u8]) -> bool {
-    match create(console, name) {
-        Ok(file) => {
-            let finished = finish(console, file, name, path, bytes);
-            if !finished {
-                remove(console, name);
-            }
-            finished
-        }
-        Err(error) => {
-            names::fail(console, path.as_bytes(), error);
-            false
-        }
+fn replace(console: &Console, name: &str, path: &str, bytes: &[u8]) -> io::Result<()> {
+    let file = told(console, path.as_bytes(), create(console, name))?;
+    let finished = finish(console, file, name, path, bytes);
+    let finished = told(console, path.as_bytes(), finished);
+    if finished.is_err() {
+        remove(console, name);
     }
+    finished
 }
 
 // Writes the bytes to a file at path, in the place of one that stands there. Where it cannot it says so, by path, and what
 // stands there stays as it was. The new file has the mode of any new file, whatever the old one had.
-fn write_path(console: &Console, path: &str, bytes: &[u8]) -> bool {
-    if !may_replace(console, path) {
-        return false;
-    }
+fn write_path(console: &Console, path: &str, bytes: &[u8]) -> io::Result<()> {
+    told(console, path.as_bytes(), expect_replaceable(console, path))?;
     let mut space = [0u8; PATH_MAX];
     let n = beside(console, path.as_bytes(), &mut space);
-    match text_of(&space[..n]) {
-        Ok(name) => replace(console, name, path, bytes),
-        Err(error) => {
-            names::fail(console, path.as_bytes(), error);
-            false
-        }
-    }
+    let name = told(console, path.as_bytes(), text_of(&space[..n]))?;
+    replace(console, name, path, bytes)
 }
 
 // Writes the bytes to the file at path, whole or not at all; says so where it cannot.
-fn write_named(console: &Console, path: &[u8], bytes: &[u8]) -> bool {
-    match text_of(path) {
-        Ok(text) => write_path(console, text, bytes),
-        Err(error) => {
-            names::fail(console, path, error);
-            false
-        }
-    }
+fn write_named(console: &Console, path: &[u8], bytes: &[u8]) -> io::Result<()> {
+    let text = told(console, path, text_of(path))?;
+    write_path(console, text, bytes)
 }
 
 // Writes the bytes to the file that argument i names, whole or not at all; says so where it cannot.
-pub fn write_argument(console: &Console, i: usize, bytes: &[u8]) -> bool {
+pub fn write_argument(console: &Console, i: usize, bytes: &[u8]) -> io::Result<()> {
     let mut path = [0u8; PATH_MAX];
-    match argument(console, i, &mut path) {
-        Ok(n) => write_named(console, &path[..n], bytes),
-        Err(error) => {
-            names::fail(console, &path, error);
-            false
-        }
-    }
+    let n = path_argument(console, i, &mut path)?;
+    write_named(console, &path[..n], bytes)
 }

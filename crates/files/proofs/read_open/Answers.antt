@@ -24,11 +24,11 @@ pub loop-done-preserved : goal.loop-done-preserved
 loop-done-preserved g c =
     let l = c.loop-done in
     let room = length l.buf - l.done in
-    let n = c.in-Bytes.n in
-    let new = put_mid l.done room l.buf c.read_once.new.part in
-    let part = part_is l.done room n l.buf c.read_once.new.part l.invariant.within c.in-Bytes.ensures.fits.0 in
+    let n = c.in_ok-n.n in
+    let new = put_mid l.done room l.buf c.read.new.buf in
+    let part = part_is l.done room n l.buf c.read.new.buf l.invariant.within c.in_ok-n.ensures.bound.0 in
     let whole = joined l.done n l.buf new (take-put_mid_below _ _ _ _ _ (le_refl _) l.invariant.within) in
     record {
       within = search rules;
-      taken = subst (Consumes _ _) (ap (λ bs. take l.done l.buf ++ bs) (sym part) ∙ whole) (Consumes-trans _ _ _ _ _ l.invariant.taken c.in-Bytes.ensures.takes.0);
+      taken = subst (Consumes _ _) (ap (λ bs. take l.done l.buf ++ bs) (sym part) ∙ whole) (Consumes-trans _ _ _ _ _ l.invariant.taken c.in_ok-n.ensures.bytes.0);
     }
