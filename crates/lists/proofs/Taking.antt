@@ -9,9 +9,8 @@ use native.Mathlib.Numerals.{add-one}
 use native.Mathlib.Omega.{arith}
 use lib.Dec.{ltb}
 use lib.ListN.{length, get_or, set, take, drop, length-drop}
-use lib.Seq.{take-suc, get_or-drop}
+use lib.Seq.{take-suc, take-suc-set, get_or-drop}
 use borrow.Author.Tests.{ltb-true, ltb-false}
-use Rattle.names.proofs.Showing.{stored}
 use Rattle.lists.specs.declared.Window.{Window}
 use Rattle.lists.specs.declared.Taken.TheVariants.{Line}
 use Rattle.lists.specs.Lists.{NoneBetween, EndsAt, Whole, Refilled}
@@ -67,7 +66,8 @@ module _ (ends : ℕ) (w₀ : List ℕ) (at end : ℕ) (fits : end ≤ length w�
         end_kept = f.end_kept h ∙ i.end_kept;
         moved = omega (arith, f.start_kept h, i.moved);
         are =
-            stored l bytes (get_or w' r.from 0) room
+            ap (λ (n : ℕ). take n (set l bytes (get_or w' r.from 0))) (add-one bytes)
+            ∙ take-suc-set l bytes (get_or w' r.from 0) room
             ∙ joined
             ∙ ap (λ (x : ℕ). take bytes (drop at w₀) ++ (x ∷ [])) (sym (get_or-drop at w₀ bytes 0))
             ∙ sym (take-suc (drop at w₀) bytes 0 more)

@@ -1,26 +1,17 @@
 -- What is taken from a list of pairs of files, and how a line is split.
-use Rattle.std.specs.Prelude.{◌≡◌, Option, Some, None, List, ℕ, zero, suc, ◌+◌, ◌-◌, ◌≤◌, ◌<◌, length, get_or, take, drop}
-use Rattle.std.specs.declared.io.Error.{Error}
+use Rattle.std.specs.Prelude.{◌≡◌, Option, Some, None, List, ℕ, zero, suc, ◌+◌, ◌-◌, ◌≤◌, ◌<◌, length, get_or, take, drop, ⊤}
+use Rattle.std.specs.Io.KnownBytes.{Consumes, IsAtEnd}
 use Rattle.names.specs.Counts.{IsPrefixLen}
-use Rattle.files.specs.declared.FileRead.{FileRead}
-use Rattle.files.specs.declared.FileRead.TheVariants.{Bytes, Failed as ReadFailed}
 use Rattle.lists.specs.declared.Next.{Next}
 use Rattle.lists.specs.declared.Taken.{Taken}
-use Rattle.lists.specs.declared.Taken.TheVariants.{Line, Unended, End, Failed}
+use Rattle.lists.specs.declared.Taken.TheVariants.{Line, Unended, Part, End}
 use Rattle.lists.specs.declared.Window.{Window}
-use Rattle.lists.specs.declared.Tabs.{Tabs}
-use Rattle.lists.specs.declared.Tabs.TheVariants.{One, Other}
 
--- the bytes that a window's start holds, and the error of a read that failed
-pub record Holds (n : ℕ) (failed : Option Error) (w : Window) : Type 0 where
+-- what was read of a list stands at the window's start, all of it, and it is nothing only where the list has ended
+pub record Filled (before after : Option (List ℕ)) (w : Window) (window : List ℕ) : Type 0 where
   pub starts : w.from ≡ 0
-  pub ends : w.to ≡ n
-  pub fails : w.failed ≡ failed
-
--- what was read stands at the window's start, all of it; a read that failed is no end of the list
-abbrev pub Filled : FileRead → Window → Type 0
-Filled (Bytes n) w = Holds n None w
-Filled (ReadFailed error) w = Holds 0 (Some error) w
+  pub are : Consumes before after (take w.to window)
+  pub ended : w.to ≡ 0 → 0 < length window → IsAtEnd after
 
 -- where the bytes stand that are still to be taken: as before, and the window too, where some were left
 pub record Refilled (from to : ℕ) (before : List ℕ) (r : Window) (window : List ℕ) : Type 0 where
@@ -55,27 +46,32 @@ pub record Whole (window line : List ℕ) (at end k : ℕ) (r : Next) (after : L
   pub up_to : r.to ≡ end
   pub window_kept : after ≡ window
 
--- what a list comes to where nothing is left of it: it could not be read, or ended after a line, or within one
-unfoldable pub at_end : (failed : Option Error) (bytes : ℕ) → Taken
-at_end (Some error) n = Failed error
-at_end None zero = End
-at_end None (suc n) = Unended
+-- what a list comes to where nothing is left of it: it ended after a line, or within one
+unfoldable pub at_end : (bytes : ℕ) → Taken
+at_end zero = End
+at_end (suc n) = Unended
 
 -- nothing is still to be taken
-pub record Emptied (failed : Option Error) (bytes : ℕ) (r : Next) : Type 0 where
-  pub is : r.taken ≡ at_end failed bytes
+pub record Emptied (bytes : ℕ) (r : Next) : Type 0 where
+  pub is : r.taken ≡ at_end bytes
   pub all : r.bytes ≡ bytes
   pub none : r.to ≡ 0
+
+-- a list that has ended, after a line or within one, holds no more bytes, where they are known
+abbrev pub HasEnded : Taken → (after : Option (List ℕ)) → Type 0
+HasEnded End after = IsAtEnd after
+HasEnded Unended after = IsAtEnd after
+HasEnded Line after = ⊤
+HasEnded Part after = ⊤
 
 unfoldable pub tab : ℕ
 tab = 9
 
--- the first tab from a place on, or the line's end
-pub record First (line : List ℕ) (at r : ℕ) : Type 0 where
-  pub from : at ≤ r
-  pub within : r ≤ length line
-  pub none_before : NoneBetween tab line at r
-  pub here : r < length line → get_or line r 0 ≡ tab
+-- a line's first tab
+pub record First (line : List ℕ) (k : ℕ) : Type 0 where
+  pub within : k < length line
+  pub here : get_or line k 0 ≡ tab
+  pub none_before : NoneBetween tab line 0 k
 
 -- a line is two names with a tab between, neither of which is empty or holds a tab
 pub record TwoNames (line : List ℕ) (k : ℕ) : Type 0 where
@@ -84,6 +80,7 @@ pub record TwoNames (line : List ℕ) (k : ℕ) : Type 0 where
   pub here : get_or line k 0 ≡ tab
   pub alone : (j : ℕ) → j < length line → get_or line j 0 ≡ tab → j ≡ k
 
-unfoldable pub Splits : List ℕ → Tabs → Type 0
-Splits line (One k) = TwoNames line k
-Splits line Other = (k : ℕ) → TwoNames line k → ⊥
+-- the place of that tab, if the line is two names
+unfoldable pub Splits : List ℕ → Option ℕ → Type 0
+Splits line (Some k) = TwoNames line k
+Splits line None = (k : ℕ) → TwoNames line k → ⊥

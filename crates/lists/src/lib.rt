@@ -1,27 +1,26 @@
 #![tactic(auto)]
 // A list of pairs of files, line by line: a pack's name, a tab, a certificate's name. A line ends in a line end or, so that names may
 // hold one, in a byte 0. A list may be longer than any buffer, so what was read of it and not yet taken stands in a window.
-ghost use Rattle.std.specs.Prelude.{ℕ, ◌-◌, ◌≤◌, ◌<◌, length};
-ghost use Rattle.lists.specs.Lists.{Emptied, EndsAt, Filled, First, Refilled, Splits, Stands, Whole};
+ghost use Rattle.std.specs.Prelude.{ℕ, ◌-◌, ◌≤◌, ◌<◌, length, IfOk, IsOkAnd, OnErr, MatchOption};
+ghost use Rattle.lists.specs.Lists.{Emptied, EndsAt, Filled, First, HasEnded, NoneBetween, tab, Refilled, Splits, Stands, Whole};
 
-use files::FileRead;
-use std::io::{Error, Read};
+use std::io;
+use std::io::Read;
 
-const TAB: u8 = 9;
+const TAB: u8 = b'\t';
 
-pub const LINE_END: u8 = 10;
+pub const LINE_END: u8 = b'\n';
 
 pub const ZERO: u8 = 0;
 
-// What was taken from a list: a line, a last line without its end, the start or a part of one that is longer than the buffer,
-// nothing since the list has ended, or nothing since it could not be read, and why.
-#[derive(Clone, Copy)]
+// What was taken from a list: a line, a last line without its end, the start or a part of one that is longer than the buffer, or nothing
+// since the list has ended.
+#[derive(Clone, Copy, PartialEq, Eq)]
 pub enum Taken {
     Line,
     Unended,
     Part,
     End,
-    Failed(Error),
 }
 
 // What was taken, how many bytes of it, and where the window's bytes stand that are still to be taken.
@@ -33,70 +32,39 @@ pub struct Next {
     pub to: usize,
 }
 
-// Where bytes stand in the window that are still to be taken: none of them where the list has ended or a read has failed, with its error.
+// Where bytes stand in the window that are still to be taken: none of them where the list has ended.
 #[derive(Clone, Copy)]
 struct Window {
     from: usize,
     to: usize,
-    failed: Option<Error>,
 }
 
-// Where what was read stands.
-fn filled(r: FileRead) -> Window
-    ensures { Filled r result }
-{
-    match r {
-        FileRead::Bytes(n) => Window {
-            from: 0,
-            to: n,
-            failed: None,
-        },
-        FileRead::Failed(error) => Window {
-            from: 0,
-            to: 0,
-            failed: Some(error),
-        },
-    }
-}
-
-// Reads on where all of the window has been taken.
-fn refilled<R: Read>(list: &mut R, window: &mut [u8], from: usize, to: usize) -> Window
+// Reads on where all of the window has been taken. A read that fails is no end of the list.
+fn refilled<R: Read>(list: &mut R, window: &mut [u8], from: usize, to: usize) -> io::Result<Window>
     requires { to ≤ length window.old }
-    ensures { Refilled from to window.old result window.new }
+    ensures keeps { IfOk result (λ r. Refilled from to window.old r window.new) }
+    ensures fails { OnErr result (to ≤ from) }
+    ensures fills { to ≤ from → IfOk result (λ r. Filled (R.remaining list.old) (R.remaining list.new) r window.new) }
 {
     if from < to {
-        return Window {
-            from,
-            to,
-            failed: None,
-        };
+        return Ok(Window { from, to });
     }
-    filled(files::read_once(list, window))
+    let to = list.read(window)?;
+    Ok(Window { from: 0, to })
 }
 
-// The list has ended after so many bytes of a line, or cannot be read.
+// The list has ended after so many bytes of a line.
 #[tactic(auto, unfolding(crate::specs::Lists::at_end))]
-fn ended(bytes: usize, failed: Option<Error>) -> Next
-    ensures { Emptied failed bytes result }
+fn ended(bytes: usize) -> Next
+    ensures { Emptied bytes result }
 {
-    if let Some(error) = failed {
-        return Next {
-            taken: Taken::Failed(error),
-            bytes,
-            from: 0,
-            to: 0,
-        };
-    }
-    if bytes == 0 {
-        return Next {
-            taken: Taken::End,
-            bytes,
-            from: 0,
-            to: 0,
-        };
-    }
+    let taken = if bytes == 0 {
+        Taken::End
+    } else {
+        Taken::Unended
+    };
     Next {
-        taken: Taken::Unended,
+        taken,
         bytes,
         from: 0,
         to: 0,
@@ -111,79 +79,57 @@ pub fn take_line<R: Read>(
     at: usize,
     end: usize,
     line: &mut [u8],
-) -> Next
+) -> io::Result<Next>
     requires { end ≤ length window.old }
-    ensures stands { Stands result window.new line.new }
-    ensures takes { (k : ℕ) → EndsAt ends window.old at end k → k - at < length line.old → Whole window.old line.new at end k result window.new }
+    ensures stands { IfOk result (λ r. Stands r window.new line.new) }
+    ensures takes { (k : ℕ) → EndsAt ends window.old at end k → k - at < length line.old → IsOkAnd result (λ r. Whole window.old line.new at end k r window.new) }
+    ensures ended { 0 < length window.old → IfOk result (λ r. HasEnded r.taken (R.remaining list.new)) }
 {
     let mut from = at;
     let mut to = end;
-    let mut bytes = 0;
-    while bytes < line.len() {
-        let w = refilled(list, window, from, to);
+    for bytes in 0..line.len() {
+        let w = refilled(list, window, from, to)?;
         let next = w.from;
         to = w.to;
         if next == to {
-            return ended(bytes, w.failed);
+            return Ok(ended(bytes));
         }
         let c = window[next];
         from = next + 1;
         if c == ends {
-            return Next {
+            return Ok(Next {
                 taken: Taken::Line,
                 bytes,
                 from,
                 to,
-            };
+            });
         }
         line[bytes] = c;
-        bytes += 1;
     }
-    Next {
+    Ok(Next {
         taken: Taken::Part,
-        bytes,
+        bytes: line.len(),
         from,
         to,
-    }
+    })
 }
 
-// Where the first tab from `at` on stands, the line's length if there is none.
-fn find_tab(line: &[u8], at: usize) -> usize
-    requires { at ≤ length line.now }
-    ensures { First line.now at result }
+// Where the line's first tab stands.
+#[tactic(auto, unfolding(crate::specs::Lists::tab))]
+fn first_tab(line: &[u8]) -> Option<usize>
+    ensures { MatchOption result (NoneBetween tab line.now 0 (length line.now)) (λ k. First line.now k) }
 {
-    let mut i = at;
-    while i < line.len() {
-        if line[i] == TAB {
-            return i;
-        }
-        i += 1;
-    }
-    i
+    line.iter().position(|c| *c == TAB)
 }
 
-// The place of the one tab between two names, or that the line is no two names with a tab between.
-#[derive(Clone, Copy)]
-pub enum Tabs {
-    One(usize),
-    Other,
-}
-
-pub fn only_tab(line: &[u8]) -> Tabs
+// The place of the one tab between two names; none where the line is no two names with a tab between.
+pub fn only_tab(line: &[u8]) -> Option<usize>
     ensures { Splits line.now result }
 {
-    let k = find_tab(line, 0);
-    if k == line.len() {
-        return Tabs::Other;
+    let k = first_tab(line)?;
+    let second = &line[k + 1..];
+    if k == 0 || second.is_empty() || second.contains(&TAB) {
+        return None;
     }
-    if find_tab(line, k + 1) < line.len() {
-        return Tabs::Other;
-    }
-    if k == 0 {
-        return Tabs::Other;
-    }
-    if k + 1 == line.len() {
-        return Tabs::Other;
-    }
-    Tabs::One(k)
+    Some(k)
 }
