@@ -10,13 +10,9 @@ use std::io::{Error, ErrorKind};
 
 // Says so where not all could be written.
 pub fn finished(console: &Console, written: io::Result<()>) -> bool {
-    match written {
-        Ok(()) => true,
-        Err(error) => {
-            names::fail(console, b"standard output", error);
-            false
-        }
-    }
+    written
+        .inspect_err(|error| names::fail(console, b"standard output", *error))
+        .is_ok()
 }
 
 // A number's line.
@@ -26,15 +22,12 @@ pub fn number(console: &Console, n: u64) -> io::Result<()> {
 
 // `refused` and the number.
 pub fn refused(console: &Console, x: Refusal) -> io::Result<()> {
-    let n = u32::from(x);
-    println!(console; "refused {n}")
+    println!(console; "refused {}", u32::from(x))
 }
 
 // One pair, of its record in a listing: rule, space, place.
 fn pair(console: &Console, r: Record) -> io::Result<()> {
-    let rule = r.a;
-    let place = r.b;
-    println!(console; "{rule} {place}")
+    println!(console; "{} {}", r.a, r.b)
 }
 
 // A line a pair, from the first n records of a listing, which must have as many.

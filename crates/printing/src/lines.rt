@@ -1,32 +1,16 @@
 // What a run over several pairs of files prints: a line a pair, each in one write, and the counts at its end.
-ghost use Rattle.std.specs.Prelude.{◌≤◌, length};
-ghost use Rattle.names.specs.Counts.{IsPrefixLen};
-
 use names::Console;
 use records::Refusal;
 use std::fmt::InlineText;
 use std::io;
-use std::io::Print;
 
 pub fn accepted(console: &Console, name: &[u8]) -> io::Result<()> {
     names::write_line(console, name, b" accepted\n")
 }
 
-// Puts the words and the number into out from `at` on, and answers where they end.
-fn put_count(words: &[u8], n: u64, out: &mut [u8], at: usize) -> usize
-    requires { at ≤ length out.old }
-    ensures { IsPrefixLen result out.new }
-{
-    let digits = InlineText::<20>::of(n);
-    let end = names::put(words, out, at);
-    names::put(digits.as_str().as_bytes(), out, end)
-}
-
 pub fn refused(console: &Console, name: &[u8], x: Refusal) -> io::Result<()> {
-    let mut words = [0u8; 32];
-    let n = put_count(b" refused ", u64::from(u32::from(x)), &mut words, 0);
-    let end = names::put(b"\n", &mut words, n);
-    names::write_line(console, name, &words[..end])
+    let words = InlineText::<32>::of(format_args!(" refused {}\n", u32::from(x)));
+    names::write_line(console, name, words.as_str().as_bytes())
 }
 
 // On standard error too.
@@ -37,20 +21,16 @@ pub fn unread(console: &Console, name: &[u8]) -> io::Result<()> {
 
 // Tells on standard error why a line of that list names no pair.
 pub fn bad_line(console: &Console, list: &[u8], number: u64, why: &[u8]) {
+    let place = InlineText::<32>::of(format_args!(": line {number}"));
     let mut words = [0u8; 96];
-    let n = put_count(b": line ", number, &mut words, 0);
+    let n = names::put(place.as_str().as_bytes(), &mut words, 0);
     let end = names::put(why, &mut words, n);
     names::say_line(console, list, &words[..end]);
 }
 
 // The last line. It ends in a number after `read`, as no line of a pair does, whatever its file is called.
 pub fn counts(console: &Console, accepted: u64, refused: u64, unread: u64) -> io::Result<()> {
-    let mut text = [0u8; 128];
-    let a = put_count(b"accepted ", accepted, &mut text, 0);
-    let b = put_count(b", refused ", refused, &mut text, a);
-    let c = put_count(b", could not be read ", unread, &mut text, b);
-    let end = names::put(b"\n", &mut text, c);
-    console.write_all(&text[..end])
+    println!(console; "accepted {accepted}, refused {refused}, could not be read {unread}")
 }
 
 // How often progress is shown, in pairs.
