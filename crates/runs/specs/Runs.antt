@@ -1,14 +1,12 @@
 -- What a run over several pairs of files comes to: the counts, and the worst of the answers.
-use Rattle.std.specs.Prelude.{◌≡◌, Bool, true, false, ◌⊎◌, ℕ, ◌+◌, ◌<◌}
+use Rattle.std.specs.Prelude.{◌≡◌, Bool, true, false, ◌⊎◌, Option, Some, None, ℕ, ◌+◌, ◌<◌}
 use Rattle.lists.specs.declared.Taken.{Taken}
-use Rattle.lists.specs.declared.Taken.TheVariants.{Line, Unended, Part, End, Failed}
+use Rattle.lists.specs.declared.Taken.TheVariants.{Line, Unended, Part, End}
 use Rattle.teldyzhom.specs.declared.Checked.{Checked}
 use Rattle.teldyzhom.specs.declared.Checked.TheVariants.{Accepted as CheckAccepted, Refused as CheckRefused}
 use Rattle.runs.specs.declared.Tally.{Tally}
 use Rattle.runs.specs.declared.Told.{Told}
 use Rattle.runs.specs.declared.Told.TheVariants.{Accepted, Refused, Unread, Nothing, Lost}
-use Rattle.runs.specs.declared.Run.{Run}
-use Rattle.runs.specs.declared.Run.TheVariants.{Whole, Broken}
 use Rattle.runs.specs.declared.Ended.{Ended}
 use Rattle.runs.specs.declared.Ended.TheVariants.{Good, Against, Unjudged}
 
@@ -32,7 +30,6 @@ ToldOnce false Line r = Answered r
 ToldOnce false Unended r = Answered r
 ToldOnce false Part r = Answered r
 ToldOnce false End r = r ≡ Nothing
-ToldOnce false (Failed error) r = r ≡ Nothing
 
 -- the greatest number of 64 bits
 abbrev pub greatest : ℕ
@@ -66,12 +63,12 @@ Worst t Unjudged = (0 < t.unread) ⊎ (total t ≡ 0)
 abbrev pub Concluded : Tally → Ended → Type 0
 Concluded t e = Worst t e ⊎ (e ≡ Unjudged)
 
--- each of n pairs was counted
-abbrev pub AllCounted : (n : ℕ) → Run → Type 0
-AllCounted n (Whole t) = total t ≡ n
-AllCounted n Broken = Unit {0}
+-- each of n pairs was counted; there are no counts of a run that was broken off
+abbrev pub AllCounted : (n : ℕ) → Option Tally → Type 0
+AllCounted n (Some t) = total t ≡ n
+AllCounted n None = Unit {0}
 
 -- a run over arguments ends as its counts say; one that was broken off has judged nothing
-abbrev pub RunEnds : Run → Ended → Type 0
-RunEnds (Whole t) e = Concluded t e
-RunEnds Broken e = e ≡ Unjudged
+abbrev pub RunEnds : Option Tally → Ended → Type 0
+RunEnds (Some t) e = Concluded t e
+RunEnds None e = e ≡ Unjudged

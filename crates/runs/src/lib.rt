@@ -5,8 +5,7 @@ ghost use Rattle.runs.specs.declared.Ended.TheVariants.{Unjudged};
 ghost use Rattle.runs.specs.declared.Told.TheVariants.{Unread};
 ghost use Rattle.runs.specs.Runs.{greatest, told_of, total, AllCounted, Answered, Concluded, Counted, RunEnds, ToldAs, ToldOnce, Worst};
 
-use files::FileRead;
-use lists::{Tabs, Taken};
+use lists::Taken;
 use names::{Console, PATH_MAX};
 use std::io;
 use std::io::Read;
@@ -27,7 +26,7 @@ const WINDOW_ROOM: usize = 65536;
 const MOST_LINES: u64 = 1000000000000;
 
 // How a run ended: accepted, yes, a listing or a pack; refused or no; or nothing could be judged.
-#[derive(Clone, Copy)]
+#[derive(Clone, Copy, PartialEq, Eq)]
 pub enum Ended {
     Good,
     Against,
@@ -36,7 +35,7 @@ pub enum Ended {
 
 // What was told of a pair: its answer; nothing, of a further part of a line that was told of already; or that it could not be
 // written.
-#[derive(Clone, Copy)]
+#[derive(Clone, Copy, PartialEq, Eq)]
 enum Told {
     Accepted,
     Refused,
@@ -46,18 +45,35 @@ enum Told {
 }
 
 // How many pairs were accepted, were refused and could not be read.
-#[derive(Clone, Copy)]
+#[derive(Clone, Copy, Default)]
 struct Tally {
     accepted: u64,
     refused: u64,
     unread: u64,
 }
 
-// The counts of a run over all its pairs, or that it was broken off since a line could not be written.
+// Room for the two files of a pair.
+#[derive(Drop)]
+struct Room {
+    pack: [u8; PACK_ROOM],
+    certificate: [u8; CERTIFICATE_ROOM],
+}
+
+impl Room {
+    fn new() -> Room {
+        Room {
+            pack: [0; PACK_ROOM],
+            certificate: [0; CERTIFICATE_ROOM],
+        }
+    }
+}
+
+// The bytes of a line of a list, with the list's name and the line's number.
 #[derive(Clone, Copy)]
-enum Run {
-    Whole(Tally),
-    Broken,
+struct Line<'a> {
+    list: &'a [u8],
+    number: u64,
+    bytes: &'a [u8],
 }
 
 // One pair more.
@@ -69,21 +85,17 @@ fn counted(t: Tally, told: Told) -> Tally
     match told {
         Told::Accepted => Tally {
             accepted: t.accepted + 1,
-            refused: t.refused,
-            unread: t.unread,
+            ..t
         },
         Told::Refused => Tally {
-            accepted: t.accepted,
             refused: t.refused + 1,
-            unread: t.unread,
+            ..t
         },
         Told::Unread => Tally {
-            accepted: t.accepted,
-            refused: t.refused,
             unread: t.unread + 1,
+            ..t
         },
-        Told::Nothing => t,
-        Told::Lost => t,
+        Told::Nothing | Told::Lost => t,
     }
 }
 
@@ -161,162 +173,99 @@ fn tell_unread(console: &Console, name: &[u8]) -> Told
 }
 
 // Checks the pack and the certificate of these names, and tells it by the pack's name, or by that of the file that could not be read.
-fn check_pair(
-    console: &Console,
-    pack_name: &[u8],
-    certificate_name: &[u8],
-    pack: &mut [u8],
-    certificate: &mut [u8],
-) -> Told
+fn check_pair(console: &Console, pack: &[u8], certificate: &[u8], room: &mut Room) -> Told
     ensures { Answered result }
 {
-    let pack_read = files::read_path(console, pack_name, pack);
-    if let FileRead::Failed(_) = pack_read {
-        return tell_unread(console, pack_name);
-    }
-    let certificate_read = files::read_path(console, certificate_name, certificate);
-    if let FileRead::Failed(_) = certificate_read {
-        return tell_unread(console, certificate_name);
-    }
-    let n = files::held(pack_read, pack);
-    let m = files::held(certificate_read, certificate);
+    let Ok(n) = files::read_path(console, pack, &mut room.pack) else {
+        return tell_unread(console, pack);
+    };
+    let Ok(m) = files::read_path(console, certificate, &mut room.certificate) else {
+        return tell_unread(console, certificate);
+    };
     tell_checked(
         console,
-        pack_name,
-        teldyzhom::check_certificate(&pack[..n], &certificate[..m]),
+        pack,
+        teldyzhom::check_certificate(&room.pack[..n], &room.certificate[..m]),
     )
 }
 
 // Checks the pair that arguments `at` and the next one name. A name that is too long leaves its start, which no file can be called
 // either.
-fn check_arguments(console: &Console, at: usize, pack: &mut [u8], certificate: &mut [u8]) -> Told
+fn check_arguments(console: &Console, at: usize, room: &mut Room) -> Told
     requires { at + 1 ≤ greatest }
     ensures { Answered result }
 {
-    let mut pack_name = [0u8; PATH_MAX];
-    let n = match files::argument(console, at, &mut pack_name) {
-        Ok(n) => n,
-        Err(error) => {
-            names::fail(console, &pack_name, error);
-            return tell_unread(console, &pack_name);
-        }
+    let mut pack = [0u8; PATH_MAX];
+    let Ok(n) = files::path_argument(console, at, &mut pack) else {
+        return tell_unread(console, &pack);
     };
-    let mut certificate_name = [0u8; PATH_MAX];
-    let m = match files::argument(console, at + 1, &mut certificate_name) {
-        Ok(m) => m,
-        Err(error) => {
-            names::fail(console, &certificate_name, error);
-            return tell_unread(console, &certificate_name);
-        }
+    let mut certificate = [0u8; PATH_MAX];
+    let Ok(m) = files::path_argument(console, at + 1, &mut certificate) else {
+        return tell_unread(console, &certificate);
     };
-    check_pair(
-        console,
-        &pack_name[..n],
-        &certificate_name[..m],
-        pack,
-        certificate,
-    )
+    check_pair(console, &pack[..n], &certificate[..m], room)
 }
 
-// Checks the pairs that the arguments from `first` on below `end` name.
-fn check_each(
-    console: &Console,
-    first: usize,
-    end: usize,
-    pack: &mut [u8],
-    certificate: &mut [u8],
-) -> Run
+// Checks the pairs that the arguments from `first` on below `end` name. There are no counts of a run that was broken off since a line could
+// not be written.
+fn check_each(console: &Console, first: usize, end: usize, room: &mut Room) -> Option<Tally>
     requires { first ≤ end }
     ensures { AllCounted ((end - first) / 2) result }
 {
-    let mut t = Tally {
-        accepted: 0,
-        refused: 0,
-        unread: 0,
-    };
-    let mut at = first;
-    while 1 < end - at {
-        let told = check_arguments(console, at, pack, certificate);
-        if let Told::Lost = told {
-            return Run::Broken;
+    let mut t = Tally::default();
+    for i in 0..(end - first) / 2 {
+        let told = check_arguments(console, first + 2 * i, room);
+        if told == Told::Lost {
+            return None;
         }
         t = counted(t, told);
         printing::lines::progress(console, all(t));
-        at += 2;
     }
-    Run::Whole(t)
+    Some(t)
 }
 
 // The end of a run over arguments.
-fn conclude_run(console: &Console, run: Run) -> Ended
+fn conclude_run(console: &Console, run: Option<Tally>) -> Ended
     ensures { RunEnds run result }
 {
-    match run {
-        Run::Whole(t) => conclude(console, t),
-        Run::Broken => Ended::Unjudged,
-    }
+    run.map_or(Ended::Unjudged, |t| conclude(console, t))
 }
 
 // Checks the pairs of files that the arguments from `first` on below `end` name.
 pub fn check_named(console: &Console, first: usize, end: usize) -> Ended
     requires { first ≤ end }
 {
-    let mut pack = [0u8; PACK_ROOM];
-    let mut certificate = [0u8; CERTIFICATE_ROOM];
-    conclude_run(
-        console,
-        check_each(console, first, end, &mut pack, &mut certificate),
-    )
+    let run = check_each(console, first, end, &mut Room::new());
+    conclude_run(console, run)
 }
 
-// Tells why the line of that number of that list names no pair.
-fn tell_line(console: &Console, list: &[u8], number: u64, line: &[u8], why: &[u8]) -> Told
+// Tells why the line names no pair.
+fn tell_line(console: &Console, line: Line, why: &[u8]) -> Told
     ensures { Answered result }
 {
-    printing::lines::bad_line(console, list, number, why);
-    tell_unread(console, line)
+    printing::lines::bad_line(console, line.list, line.number, why);
+    tell_unread(console, line.bytes)
 }
 
 // Checks the pair that a line names.
 #[tactic(auto, unfolding(lists::specs::Lists::Splits))]
-fn check_line(
-    console: &Console,
-    list: &[u8],
-    number: u64,
-    line: &[u8],
-    pack: &mut [u8],
-    certificate: &mut [u8],
-) -> Told
+fn check_line(console: &Console, line: Line, room: &mut Room) -> Told
     ensures { Answered result }
 {
-    let Tabs::One(k) = lists::only_tab(line) else {
-        return tell_line(
-            console,
-            list,
-            number,
-            line,
-            b": Not a pack, a tab and a certificate\n",
-        );
+    let Some(k) = lists::only_tab(line.bytes) else {
+        return tell_line(console, line, b": Not a pack, a tab and a certificate\n");
     };
-    check_pair(console, &line[..k], &line[k + 1..], pack, certificate)
+    check_pair(console, &line.bytes[..k], &line.bytes[k + 1..], room)
 }
 
 // Checks the pair that a last line without its end names. Editors leave a line so; where a byte 0 ends lines, the list was cut.
-fn check_unended(
-    console: &Console,
-    ends: u8,
-    list: &[u8],
-    number: u64,
-    line: &[u8],
-    pack: &mut [u8],
-    certificate: &mut [u8],
-) -> Told
+fn check_unended(console: &Console, ends: u8, line: Line, room: &mut Room) -> Told
     ensures { Answered result }
 {
     if ends == lists::ZERO {
-        return tell_line(console, list, number, line, b": Line without its end\n");
+        return tell_line(console, line, b": Line without its end\n");
     }
-    check_line(console, list, number, line, pack, certificate)
+    check_line(console, line, room)
 }
 
 // Checks what was taken from a list. Of a line that is too long only the first part is told of.
@@ -325,11 +274,8 @@ fn check_taken(
     taken: Taken,
     begun: bool,
     ends: u8,
-    list: &[u8],
-    number: u64,
-    line: &[u8],
-    pack: &mut [u8],
-    certificate: &mut [u8],
+    line: Line,
+    room: &mut Room,
 ) -> Told
     ensures { ToldOnce begun taken result }
 {
@@ -337,19 +283,11 @@ fn check_taken(
         return Told::Nothing;
     }
     match taken {
-        Taken::Line => check_line(console, list, number, line, pack, certificate),
-        Taken::Unended => check_unended(console, ends, list, number, line, pack, certificate),
-        Taken::Part => tell_line(console, list, number, line, b": Line too long\n"),
+        Taken::Line => check_line(console, line, room),
+        Taken::Unended => check_unended(console, ends, line, room),
+        Taken::Part => tell_line(console, line, b": Line too long\n"),
         Taken::End => Told::Nothing,
-        Taken::Failed(_) => Told::Nothing,
     }
-}
-
-fn is_part(taken: Taken) -> bool {
-    if let Taken::Part = taken {
-        return true;
-    }
-    false
 }
 
 // The end of a run over the list of that name: one without a pair has judged nothing, and has no counts.
@@ -375,7 +313,7 @@ fn break_off(console: &Console, t: Tally, name: &[u8], error: io::Error) -> Ende
         return Ended::Unjudged;
     }
     let told = tell_unread(console, name);
-    if let Told::Lost = told {
+    if told == Told::Lost {
         return Ended::Unjudged;
     }
     conclude(console, counted(t, told));
@@ -390,51 +328,36 @@ fn check_lines<R: Read>(
     name: &[u8],
     window: &mut [u8],
     line: &mut [u8],
-    pack: &mut [u8],
-    certificate: &mut [u8],
+    room: &mut Room,
 ) -> Ended {
-    let mut t = Tally {
-        accepted: 0,
-        refused: 0,
-        unread: 0,
-    };
+    let mut t = Tally::default();
     let mut from = 0;
     let mut to = 0;
     let mut begun = false;
-    let mut taken = 0;
-    while taken < MOST_LINES {
-        let next = lists::take_line(list, ends, window, from, to, line);
-        let what = next.taken;
-        if let Taken::End = what {
+    for _taken in 0..MOST_LINES {
+        let next = match lists::take_line(list, ends, window, from, to, line) {
+            Ok(next) => next,
+            Err(error) => return break_off(console, t, name, error),
+        };
+        if next.taken == Taken::End {
             return conclude_list(console, t, name);
         }
-        if let Taken::Failed(error) = what {
-            return break_off(console, t, name, error);
-        }
-        let bytes = next.bytes;
-        let number = all(t) + 1;
-        let told = check_taken(
-            console,
-            what,
-            begun,
-            ends,
-            name,
-            number,
-            &line[..bytes],
-            pack,
-            certificate,
-        );
-        if let Told::Lost = told {
+        let taken = Line {
+            list: name,
+            number: all(t) + 1,
+            bytes: &line[..next.bytes],
+        };
+        let told = check_taken(console, next.taken, begun, ends, taken, room);
+        if told == Told::Lost {
             return Ended::Unjudged;
         }
         t = counted(t, told);
         if !begun {
             printing::lines::progress(console, all(t));
         }
-        begun = is_part(what);
+        begun = next.taken == Taken::Part;
         from = next.from;
         to = next.to;
-        taken += 1;
     }
     names::say_line(console, name, b": Too many lines\n");
     Ended::Unjudged
@@ -443,8 +366,6 @@ fn check_lines<R: Read>(
 fn check_open<R: Read>(console: &Console, list: &mut R, ends: u8, name: &[u8]) -> Ended {
     let mut window = [0u8; WINDOW_ROOM];
     let mut line = [0u8; LINE_ROOM];
-    let mut pack = [0u8; PACK_ROOM];
-    let mut certificate = [0u8; CERTIFICATE_ROOM];
     check_lines(
         console,
         list,
@@ -452,18 +373,14 @@ fn check_open<R: Read>(console: &Console, list: &mut R, ends: u8, name: &[u8]) -
         name,
         &mut window,
         &mut line,
-        &mut pack,
-        &mut certificate,
+        &mut Room::new(),
     )
 }
 
 // Checks the pairs that the list of that name names; its lines end in that byte.
 fn check_path(console: &Console, name: &[u8], ends: u8) -> Ended {
     match files::open_path(console, name) {
-        Ok(file) => {
-            let mut list = file;
-            check_open(console, &mut list, ends, name)
-        }
+        Ok(mut list) => check_open(console, &mut list, ends, name),
         Err(error) => {
             names::fail(console, name, error);
             Ended::Unjudged
@@ -474,15 +391,11 @@ fn check_path(console: &Console, name: &[u8], ends: u8) -> Ended {
 // Checks the pairs that the list names whose name is argument `at`, `-` for standard input; its lines end in that byte.
 pub fn check_list(console: &Console, at: usize, ends: u8) -> Ended {
     if files::is_input(console, at) {
-        let mut input = console.rt.stdin();
-        return check_open(console, &mut input, ends, b"standard input");
+        return check_open(console, &mut console.rt.stdin(), ends, b"standard input");
     }
     let mut name = [0u8; PATH_MAX];
-    match files::argument(console, at, &mut name) {
+    match files::path_argument(console, at, &mut name) {
         Ok(n) => check_path(console, &name[..n], ends),
-        Err(error) => {
-            names::fail(console, &name, error);
-            Ended::Unjudged
-        }
+        Err(_) => Ended::Unjudged,
     }
 }
