@@ -1,20 +1,22 @@
 #![tactic(auto)]
 // Reads a pack from standard input and prints one line a pair, rule and place; a refused pack prints `refused` and the number.
-use files::FileRead;
 use names::{Console, UNREAD};
 use records::Answer;
 use std::process::ExitCode;
 
+// One byte more than the limit is enough to see that a pack is too long.
+const PACK_ROOM: usize = records::MOST_PACK_BYTES + 1;
+
+// The records of as many pairs as there can be.
+const LIST_ROOM: usize = 8 * records::MOST_PAIRS;
+
 fn list(console: &Console) {
-    // One byte more than the limit is enough to see that a pack is too long.
-    let mut pack = [0u8; 33793];
-    let mut list = [0u8; 16384];
-    let read = files::read_input(console, &mut pack);
-    if let FileRead::Failed(_) = read {
+    let mut pack = [0u8; PACK_ROOM];
+    let mut list = [0u8; LIST_ROOM];
+    let Ok(n) = files::read_input(console, &mut pack) else {
         return;
-    }
-    let length = files::held(read, &pack);
-    let written = match teldyzhom::list_pairs(&pack[..length], &mut list) {
+    };
+    let written = match teldyzhom::list_pairs(&pack[..n], &mut list) {
         Answer::Refused(x) => printing::refused(console, x),
         Answer::Passed(n) => printing::pairs(console, &list, n),
     };

@@ -7,9 +7,7 @@ ghost use Rattle.std.specs.Process.{exit_status};
 ghost use Rattle.loader.specs.Status.{status_of};
 ghost use Rattle.runs.specs.Runs.{greatest};
 
-use files::FileRead;
 use names::{Console, UNREAD};
-use numbers::Parsed;
 use pairs::ArcAnswer;
 use records::{Answer, Refusal};
 use runs::{CERTIFICATE_ROOM, Ended, PACK_ROOM};
@@ -65,16 +63,12 @@ fn tell_arc(console: &Console, answer: ArcAnswer) -> Ended {
 fn check(console: &Console, pack_at: usize, certificate_at: usize) -> Ended {
     let mut pack = [0u8; PACK_ROOM];
     let mut certificate = [0u8; CERTIFICATE_ROOM];
-    let pack_read = files::read_argument(console, pack_at, &mut pack);
-    if let FileRead::Failed(_) = pack_read {
+    let Ok(n) = files::read_argument(console, pack_at, &mut pack) else {
         return Ended::Unjudged;
-    }
-    let certificate_read = files::read_argument(console, certificate_at, &mut certificate);
-    if let FileRead::Failed(_) = certificate_read {
+    };
+    let Ok(m) = files::read_argument(console, certificate_at, &mut certificate) else {
         return Ended::Unjudged;
-    }
-    let n = files::held(pack_read, &pack);
-    let m = files::held(certificate_read, &certificate);
+    };
     tell_checked(
         console,
         teldyzhom::check_certificate(&pack[..n], &certificate[..m]),
@@ -84,58 +78,36 @@ fn check(console: &Console, pack_at: usize, certificate_at: usize) -> Ended {
 fn pairs_of(console: &Console, pack_at: usize) -> Ended {
     let mut pack = [0u8; PACK_ROOM];
     let mut list = [0u8; LIST_ROOM];
-    let pack_read = files::read_argument(console, pack_at, &mut pack);
-    if let FileRead::Failed(_) = pack_read {
+    let Ok(n) = files::read_argument(console, pack_at, &mut pack) else {
         return Ended::Unjudged;
-    }
-    let n = files::held(pack_read, &pack);
+    };
     match teldyzhom::list_pairs(&pack[..n], &mut list) {
         Answer::Refused(x) => refused(console, x),
         Answer::Passed(k) => after(console, printing::pairs(console, &list, k), Ended::Good),
     }
 }
 
-fn ask(
-    console: &Console,
-    pack_at: usize,
-    rule: u32,
-    place: u32,
-    other_rule: u32,
-    other_place: u32,
-) -> Ended {
+fn arc(console: &Console, at: usize) -> Ended
+    requires { at ≤ 3 }
+{
+    let places = [at + 1, at + 2, at + 3, at + 4];
+    let numbers = places.map(|i| numbers::argument(console, i));
+    let [Some(rule), Some(place), Some(other_rule), Some(other_place)] = numbers else {
+        return usage(console);
+    };
     let mut pack = [0u8; PACK_ROOM];
-    let pack_read = files::read_argument(console, pack_at, &mut pack);
-    if let FileRead::Failed(_) = pack_read {
+    let Ok(n) = files::read_argument(console, at, &mut pack) else {
         return Ended::Unjudged;
-    }
-    let n = files::held(pack_read, &pack);
+    };
     tell_arc(
         console,
         teldyzhom::arc_runs(&pack[..n], rule, place, other_rule, other_place),
     )
 }
 
-fn arc(console: &Console, at: usize) -> Ended
-    requires { at ≤ 3 }
-{
-    let Parsed::Number(a) = numbers::argument(console, at + 1) else {
-        return usage(console);
-    };
-    let Parsed::Number(b) = numbers::argument(console, at + 2) else {
-        return usage(console);
-    };
-    let Parsed::Number(c) = numbers::argument(console, at + 3) else {
-        return usage(console);
-    };
-    let Parsed::Number(d) = numbers::argument(console, at + 4) else {
-        return usage(console);
-    };
-    ask(console, at, a, b, c, d)
-}
-
 // Writes the pack, and then its length as the answer; the pack stays where the answer cannot be told.
 fn give_pack(console: &Console, pack_at: usize, pack: &[u8]) -> Ended {
-    if !files::write_argument(console, pack_at, pack) {
+    if files::write_argument(console, pack_at, pack).is_err() {
         return Ended::Unjudged;
     }
     after(
@@ -148,31 +120,21 @@ fn give_pack(console: &Console, pack_at: usize, pack: &[u8]) -> Ended {
 fn read(console: &Console, text_at: usize, pack_at: usize) -> Ended {
     let mut text = [0u8; TEXT_ROOM];
     let mut pack = [0u8; records::MOST_PACK_BYTES];
-    let text_read = files::read_argument(console, text_at, &mut text);
-    if let FileRead::Failed(_) = text_read {
+    let Ok(n) = files::read_argument(console, text_at, &mut text) else {
         return Ended::Unjudged;
-    }
-    let n = files::held(text_read, &text);
+    };
     match teldyzhom::read_text(&text[..n], &mut pack) {
         Answer::Refused(x) => refused(console, x),
         Answer::Passed(k) => {
             // All k of them: the answer is never more than the buffer holds.
-            let m = files::held(FileRead::Bytes(k), &pack);
-            give_pack(console, pack_at, &pack[..m])
+            give_pack(console, pack_at, &pack[..k.min(pack.len())])
         }
     }
 }
 
 // Whether an argument from `first` on below `end` is `-`.
-fn names_input(console: &Console, first: usize, end: usize) -> bool
-    requires { first ≤ end }
-{
-    for i in first..end {
-        if files::is_input(console, i) {
-            return true;
-        }
-    }
-    false
+fn names_input(console: &Console, first: usize, end: usize) -> bool {
+    (first..end).any(|i| files::is_input(console, i))
 }
 
 // Checks the pairs of a list. Its name is the one argument after the flag, argument `first`; its lines end in that byte.
@@ -197,18 +159,13 @@ fn check_all(console: &Console, first: usize, end: usize) -> Ended
     }
     if end - first == 2 {
         // Standard input has one file.
-        if files::is_input(console, first) {
-            if files::is_input(console, first + 1) {
-                return usage(console);
-            }
+        if files::is_input(console, first) && files::is_input(console, first + 1) {
+            return usage(console);
         }
         return check(console, first, first + 1);
     }
     // An odd one is of no pair, and standard input is no file of a run over several.
-    if (end - first) % 2 == 1 {
-        return usage(console);
-    }
-    if names_input(console, first, end) {
+    if (end - first) % 2 == 1 || names_input(console, first, end) {
         return usage(console);
     }
     runs::check_named(console, first, end)
@@ -219,31 +176,18 @@ fn answer(console: &Console, at: usize, given: usize) -> Ended
     requires at_bound { at ≤ 2 }
     requires given_bound { at + given ≤ greatest }
 {
-    if 2 < given {
-        if files::is_word(console, at, b"check") {
-            return check_all(console, at + 1, at + given);
-        }
+    match given {
+        3.. if files::is_word(console, at, b"check") => check_all(console, at + 1, at + given),
+        // A pack is no text: it goes to a file, and never to standard output.
+        3 if files::is_word(console, at, b"read") && !files::is_input(console, at + 2) => read(
+            console,
+            at + 1,
+            at + 2,
+        ),
+        2 if files::is_word(console, at, b"pairs") => pairs_of(console, at + 1),
+        6 if files::is_word(console, at, b"arc") => arc(console, at + 1),
+        _ => usage(console),
     }
-    if given == 3 {
-        if files::is_word(console, at, b"read") {
-            // A pack is no text: it goes to a file, and never to standard output.
-            if files::is_input(console, at + 2) {
-                return usage(console);
-            }
-            return read(console, at + 1, at + 2);
-        }
-    }
-    if given == 2 {
-        if files::is_word(console, at, b"pairs") {
-            return pairs_of(console, at + 1);
-        }
-    }
-    if given == 6 {
-        if files::is_word(console, at, b"arc") {
-            return arc(console, at + 1);
-        }
-    }
-    usage(console)
 }
 
 // The exit status: 0 accepted, yes, a listing or a pack; 1 refused or no; 2 nothing was judged.
@@ -259,12 +203,8 @@ fn status(e: Ended) -> ExitCode
 
 fn main(rt: HostRuntime) -> ExitCode {
     let console = Console::new(rt);
-    let given = files::argument_count(&console);
-    let ended = if given < 2 {
-        usage(&console)
-    } else {
-        answer(&console, 1, given - 1)
-    };
+    let given = files::argument_count(&console).saturating_sub(1);
+    let ended = answer(&console, 1, given);
     if console.is_unread() {
         return ExitCode::from(UNREAD);
     }

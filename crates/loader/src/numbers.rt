@@ -1,54 +1,24 @@
 // Numbers on the command line.
 use names::Console;
 
-// A number, or another word.
-#[derive(Clone, Copy)]
-pub enum Parsed {
-    Number(u32),
-    Other,
-}
-
-// One digit more; numbers past 4,294,967,295 stay there, since they name no pair either.
-fn more(n: u32, digit: u8) -> u32 {
-    if 429496728 < n {
-        return 4294967295;
-    }
-    if digit < 48 {
-        return n;
-    }
-    if 57 < digit {
-        return n;
-    }
-    10 * n + (digit - 48) as u32
-}
-
-fn is_digit(c: u8) -> bool {
-    if c < 48 {
-        return false;
-    }
-    c <= 57
-}
-
-// The number that the bytes spell in decimal.
-fn spelled(s: &[u8]) -> Parsed {
+// The number that the bytes spell in decimal. One past 4,294,967,295 stays there, since it names no pair either.
+fn spelled(s: &[u8]) -> Option<u32> {
     if s.is_empty() {
-        return Parsed::Other;
+        return None;
     }
-    let mut n = 0;
+    let mut n: u32 = 0;
     for c in s {
-        if !is_digit(*c) {
-            return Parsed::Other;
+        if !c.is_ascii_digit() {
+            return None;
         }
-        n = more(n, *c);
+        n = n.saturating_mul(10).saturating_add(u32::from(*c - b'0'));
     }
-    Parsed::Number(n)
+    Some(n)
 }
 
-// The number that argument i spells; one that is longer than the buffer is told as another word, as one that is missing is.
-pub fn argument(console: &Console, i: usize) -> Parsed {
+// The number that argument i spells; none of an argument that is missing or longer than the buffer.
+pub fn argument(console: &Console, i: usize) -> Option<u32> {
     let mut word = [0u8; 32];
-    match files::argument(console, i, &mut word) {
-        Ok(n) => spelled(&word[..n]),
-        Err(_) => Parsed::Other,
-    }
+    let n = files::argument(console, i, &mut word).ok()?;
+    spelled(&word[..n])
 }
