@@ -7,8 +7,7 @@ use Prim.Native.Nat.{ℕ, zero, suc, ◌≤◌}
 use native.Mathlib.Omega.{arith}
 use lib.ListN.{length, set, length-set}
 use lib.Seq.{get_or-set_same, get_or-set_other}
-use Rattle.records.specs.declared.Answer.{Answer}
-use Rattle.records.specs.declared.Answer.TheVariants.{Passed, Refused as AnswerRefused}
+use Rattle.std.specs.Prelude.{Result, Ok, Err}
 use Rattle.records.specs.declared.Refusal.{Refusal}
 use Rattle.records.specs.declared.Refusal.TheVariants.{BadText}
 use Rattle.texts.specs.Tokens.{Name, Token, opens, tokens}
@@ -65,27 +64,27 @@ module _ (text : List ℕ) (at : ℕ) where
       word_told s e n = rw (m.is, n.moves.is)
 
 module _ (text : List ℕ) where
-  pub refused_told : (o : Option (List Token)) → o ≡ none → HeadingTold text o (AnswerRefused BadText)
+  pub refused_told : (o : Option (List Token)) → o ≡ none → HeadingTold text o (Err BadText)
   unfolding HeadingTold BadAnswer
   refused_told none e = (BadText, refl, refl)
   refused_told (some ts) e = absurd (none-ne-some ts (sym e))
 
-  pub passed_told : (e : ℕ) → e ≤ length text → (o : Option (List Token)) → o ≡ some (tokens_at text e) → HeadingTold text o (Passed e)
+  pub passed_told : (e : ℕ) → e ≤ length text → (o : Option (List Token)) → o ≡ some (tokens_at text e) → HeadingTold text o (Ok e)
   unfolding HeadingTold
   passed_told e h none k = absurd (none-ne-some _ k)
   passed_told e h (some ts) k = (e, refl, cc, h)
 
   -- what an answer tells
-  pub none_told : (y : Refusal) (o : Option (List Token)) → HeadingTold text o (AnswerRefused y) → (o ≡ none) × BadAnswer (AnswerRefused y)
+  pub none_told : (y : Refusal) (o : Option (List Token)) → HeadingTold text o (Err y) → (o ≡ none) × BadAnswer (Err y)
   unfolding HeadingTold
   none_told y none h = (refl, h)
-  none_told y (some ts) h = let k : AnswerRefused y ≡ Passed h.0 = h.1 in absurd (false≢true cc)
+  none_told y (some ts) h = let k : Err y ≡ Ok h.0 = h.1 in absurd (false≢true cc)
 
-  pub place_told : (e : ℕ) (o : Option (List Token)) → HeadingTold text o (Passed e) → (o ≡ some (tokens_at text e)) × (e ≤ length text)
+  pub place_told : (e : ℕ) (o : Option (List Token)) → HeadingTold text o (Ok e) → (o ≡ some (tokens_at text e)) × (e ≤ length text)
   unfolding HeadingTold BadAnswer
-  place_told e none h = let k : Passed e ≡ AnswerRefused h.0 = h.1 in absurd (false≢true cc)
+  place_told e none h = let k : Ok e ≡ Err h.0 = h.1 in absurd (false≢true cc)
   place_told e (some ts) h =
-      let k : Passed e ≡ Passed h.0 = h.1 in
+      let k : Ok e ≡ Ok h.0 = h.1 in
       let is : e ≡ h.0 = cc in
       (rw is (ap some (sym h.2)), rw is h.3)
 
@@ -96,20 +95,20 @@ module _ (text : List ℕ) where
 
 -- THE VARIABLES
 module _ (text : List ℕ) (at : ℕ) (z : List ℕ) where
-  pub same_answer : (o : Option (List Token)) (x y : Answer) → x ≡ y → VariablesRead text at o x z → VariablesRead text at o y z
+  pub same_answer : (o : Option (List Token)) (x y : Result ℕ Refusal) → x ≡ y → VariablesRead text at o x z → VariablesRead text at o y z
   same_answer o x y e h = rw e at h
 
-  pub names_refused : (y : Refusal) (o : Option (List Token)) → VariablesRead text at o (AnswerRefused y) z → (o ≡ none) × BadAnswer (AnswerRefused y)
+  pub names_refused : (y : Refusal) (o : Option (List Token)) → VariablesRead text at o (Err y) z → (o ≡ none) × BadAnswer (Err y)
   unfolding VariablesRead BadAnswer
   names_refused y none h = (refl, h)
-  names_refused y (some ts) h = let k : AnswerRefused y ≡ Passed h.0 = h.1 in absurd (false≢true cc)
+  names_refused y (some ts) h = let k : Err y ≡ Ok h.0 = h.1 in absurd (false≢true cc)
 
-  pub names_told : (e : ℕ) (o : Option (List Token)) → VariablesRead text at o (Passed e) z
+  pub names_told : (e : ℕ) (o : Option (List Token)) → VariablesRead text at o (Ok e) z
       → (o ≡ some (tokens_at text e)) × (e ≤ length text) × VariablesKept text z (listed (tokens_at text at))
   unfolding VariablesRead
-  names_told e none h = let k : Passed e ≡ AnswerRefused h.0 = h.1 in absurd (false≢true cc)
+  names_told e none h = let k : Ok e ≡ Err h.0 = h.1 in absurd (false≢true cc)
   names_told e (some ts) h =
-      let k : Passed e ≡ Passed h.0 = h.1 in
+      let k : Ok e ≡ Ok h.0 = h.1 in
       let is : e ≡ h.0 = cc in
       (rw is (ap some (sym h.2)), rw is h.3, h.4)
 
@@ -126,30 +125,30 @@ table_empty text table a q h later = record {
 
 -- THE RULES behind the variables
 module _ (text : List ℕ) (vs : List Name) (ts : List Token) where
-  pub behind_refused : (y : Refusal) → HeadingTold text (heading_read RULES ts) (AnswerRefused y) → BehindTold text vs (rules_behind vs ts) (AnswerRefused y)
+  pub behind_refused : (y : Refusal) → HeadingTold text (heading_read RULES ts) (Err y) → BehindTold text vs (rules_behind vs ts) (Err y)
   unfolding rules_behind BehindTold
   behind_refused y h = let k = none_told text y _ h in rw k.0 k.1
 
-  module _ (r : ℕ) (h : HeadingTold text (heading_read RULES ts) (Passed r)) where
+  module _ (r : ℕ) (h : HeadingTold text (heading_read RULES ts) (Ok r)) where
     behind_is : rules_behind vs ts ≡ rules_from vs at_start (tokens_at text r)
     unfolding rules_behind
     behind_is = rw (place_told text r _ h).0
 
-    pub behind_told : true ≡ is_some (rules_from vs at_start (tokens_at text r)) → BehindTold text vs (rules_behind vs ts) (Passed r)
+    pub behind_told : true ≡ is_some (rules_from vs at_start (tokens_at text r)) → BehindTold text vs (rules_behind vs ts) (Ok r)
     unfolding BehindTold is_some
     behind_told e = rw behind_is (go (rules_from vs at_start (tokens_at text r)) refl e)
       where
-        go : (o : Option (List TextRule)) → rules_from vs at_start (tokens_at text r) ≡ o → true ≡ is_some o → BehindTold text vs o (Passed r)
+        go : (o : Option (List TextRule)) → rules_from vs at_start (tokens_at text r) ≡ o → true ≡ is_some o → BehindTold text vs o (Ok r)
         go none i e = absurd (false≢true (sym e))
         go (some rs) i e =
             let k = rules_only vs (tokens_at text r) rs i in
             (r, refl, record { within = (place_told text r _ h).1; are = k.0; bare = k.1 })
 
-    pub none_behind : false ≡ is_some (rules_from vs at_start (tokens_at text r)) → BehindTold text vs (rules_behind vs ts) (AnswerRefused BadText)
+    pub none_behind : false ≡ is_some (rules_from vs at_start (tokens_at text r)) → BehindTold text vs (rules_behind vs ts) (Err BadText)
     unfolding BehindTold BadAnswer is_some
     none_behind e = rw behind_is (go (rules_from vs at_start (tokens_at text r)) e)
       where
-        go : (o : Option (List TextRule)) → false ≡ is_some o → BehindTold text vs o (AnswerRefused BadText)
+        go : (o : Option (List TextRule)) → false ≡ is_some o → BehindTold text vs o (Err BadText)
         go none e = (BadText, refl, refl)
         go (some rs) e = absurd (false≢true e)
 
@@ -160,17 +159,17 @@ module _ (text : List ℕ) where
   from_start = refl
 
   module _ (y : Refusal) (z : List ℕ) where
-    pub no_variables : HeadingTold text (heading_read VAR (tokens_at text 0)) (AnswerRefused y) → GrammarTold text (parse (tokens text)) (AnswerRefused y) z
+    pub no_variables : HeadingTold text (heading_read VAR (tokens_at text 0)) (Err y) → GrammarTold text (parse (tokens text)) (Err y) z
     unfolding parse GrammarTold
     no_variables h = let k = none_told text y _ h in rw (← from_start, k.0) k.1
 
-    pub bad_variables : (a : ℕ) → heading_read VAR (tokens_at text 0) ≡ some (tokens_at text a) → VariablesRead text a (after_names (tokens_at text a)) (AnswerRefused y) z
-        → GrammarTold text (parse (tokens text)) (AnswerRefused y) z
+    pub bad_variables : (a : ℕ) → heading_read VAR (tokens_at text 0) ≡ some (tokens_at text a) → VariablesRead text a (after_names (tokens_at text a)) (Err y) z
+        → GrammarTold text (parse (tokens text)) (Err y) z
     unfolding parse GrammarTold
     bad_variables a e h = let k = names_refused text a z y _ h in rw (← from_start, e, k.0) k.1
 
   -- the rules behind decide
-  module _ (a b : ℕ) (z : List ℕ) (e : heading_read VAR (tokens_at text 0) ≡ some (tokens_at text a)) (n : VariablesRead text a (after_names (tokens_at text a)) (Passed b) z) where
+  module _ (a b : ℕ) (z : List ℕ) (e : heading_read VAR (tokens_at text 0) ≡ some (tokens_at text a)) (n : VariablesRead text a (after_names (tokens_at text a)) (Ok b) z) where
     abbrev names : List Name
     names = listed (tokens_at text a)
 
@@ -185,7 +184,7 @@ module _ (text : List ℕ) where
         go none = refl
         go (some us) = refl
 
-    pub text_told : (x : Answer) → BehindTold text names (rules_behind names (tokens_at text b)) x → GrammarTold text (parse (tokens text)) x z
+    pub text_told : (x : Result ℕ Refusal) → BehindTold text names (rules_behind names (tokens_at text b)) x → GrammarTold text (parse (tokens text)) x z
     unfolding BehindTold GrammarTold
     text_told x h = rw parse_is (go (rules_behind names (tokens_at text b)) h)
       where

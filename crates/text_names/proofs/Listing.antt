@@ -6,7 +6,7 @@ use mathlib.Core.Option.{none, some}
 use Prim.Native.Nat.{ℕ, ◌≤◌}
 use native.Mathlib.Omega.{arith}
 use lib.ListN.{length, get_or}
-use Rattle.records.specs.declared.Answer.TheVariants.{Passed, Refused as AnswerRefused}
+use Rattle.std.specs.Prelude.{Ok, Err}
 use Rattle.records.specs.declared.Refusal.TheVariants.{BadText}
 use Rattle.texts.specs.Tokens.{Name, closes}
 use Rattle.texts.specs.Spelling.{same, among}
@@ -132,7 +132,7 @@ module _ (text : List ℕ) (at : ℕ) (table : List ℕ) where
       holds = kept.1 r.names _ r.are r.holds;
     }
 
-    pub read_closed : length text ≤ 32768 → (e : ℕ) → Moves text i closes e → VariablesRead text at (after_names (tokens_at text at)) (Passed e) table
+    pub read_closed : length text ≤ 32768 → (e : ℕ) → Moves text i closes e → VariablesRead text at (after_names (tokens_at text at)) (Ok e) table
     unfolding VariablesRead
     read_closed short e m =
         let over = after_close text i e m in
@@ -150,6 +150,6 @@ module _ (text : List ℕ) (at : ℕ) (table : List ℕ) where
           },
         )
 
-    pub read_refused : after_names (tokens_at text i) ≡ none → VariablesRead text at (after_names (tokens_at text at)) (AnswerRefused BadText) table
+    pub read_refused : after_names (tokens_at text i) ≡ none → VariablesRead text at (after_names (tokens_at text at)) (Err BadText) table
     unfolding VariablesRead
     read_refused e = rw (r.behind ∙ e) (BadText, refl, refl)

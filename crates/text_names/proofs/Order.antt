@@ -1,9 +1,10 @@
 -- The order of names: it is strict and total, and two names of a text are compared from their characters.
+use Rattle.std.specs.Prelude.{Some, None}
 use mathlib.Core.Path.{◌≡◌, refl, sym, ◌∙◌}
 use mathlib.Core.Bool.{true, false, ◌&&◌, false≢true}
 use mathlib.Core.Logic.{◌⊎◌, inl, inr, ⊎_elim}
 use mathlib.Core.List.{List, [], ◌∷◌}
-use Prim.Native.Nat.{ℕ, ◌+◌, ◌≤◌, ◌<◌}
+use Prim.Native.Nat.{ℕ, ◌+◌, ◌<◌}
 use native.Mathlib.Omega.{arith}
 use borrow.Author.Tests.{ltb-true, ltb-false, eqb-true, eqb-false, lt-ltb, le-ltb, eq-eqb, ne_eqb}
 use lib.Dec.{ltb, eqb}
@@ -85,23 +86,21 @@ less_other n m h e = not_both (less m m) (rw e at h) (less_irreflexive m)
 
 -- TWO NAMES of a text
 module _ (text : List ℕ) (i j : ℕ) where
-  pub less_over : character text j ≡ 0 → less (name_at text i) (name_at text j) ≡ false
+  pub less_over : character text j ≡ None → less (name_at text i) (name_at text j) ≡ false
   unfolding less
   less_over e = rw (name_ends text j e) (go (stands text i))
     where
       go : Stands text i → less (name_at text i) [] ≡ false
       go (none n z) = rw n
-      go (some h p m) = rw m
+      go (some c h p b z m) = rw m
 
-  pub less_differ : 1 ≤ character text j → (character text i ≡ character text j → ⊥)
-      → less (name_at text i) (name_at text j) ≡ ltb (character text i) (character text j)
-  unfolding less
-  less_differ k e = rw (name_goes_on text j k) (go (stands text i))
-    where
-      go : Stands text i → less (name_at text i) (character text j ∷ name_at text (j + 1)) ≡ ltb (character text i) (character text j)
-      go (none n z) = rw (n, lt-ltb (character text i) (character text j) (omega arith))
-      go (some h p m) = rw m (first_differ (character text i) (character text j) (name_at text (i + 1)) (name_at text (j + 1)) e)
+  module _ (d : ℕ) (e : character text j ≡ Some d) where
+    pub less_ended : character text i ≡ None → less (name_at text i) (name_at text j) ≡ true
+    unfolding less
+    less_ended z = rw (name_ends text i z, name_goes_on text j d e)
 
-  pub less_more : 1 ≤ character text j → character text i ≡ character text j → (m n : ℕ) → i + 1 ≡ m → j + 1 ≡ n
-      → less (name_at text i) (name_at text j) ≡ less (name_at text m) (name_at text n)
-  less_more k e m n is js = rw (name_goes_on text i (omega arith), name_goes_on text j k, ← is, ← js) (first_same _ _ _ _ e)
+    pub less_differ : (c : ℕ) → character text i ≡ Some c → (c ≡ d → ⊥) → less (name_at text i) (name_at text j) ≡ ltb c d
+    less_differ c z f = rw (name_goes_on text i c z, name_goes_on text j d e) (first_differ c d (name_at text (i + 1)) (name_at text (j + 1)) f)
+
+    pub less_more : (c : ℕ) → character text i ≡ Some c → c ≡ d → (m n : ℕ) → i + 1 ≡ m → j + 1 ≡ n → less (name_at text i) (name_at text j) ≡ less (name_at text m) (name_at text n)
+    less_more c z f m n is js = rw (name_goes_on text i c z, name_goes_on text j d e, ← is, ← js) (first_same _ _ _ _ f)

@@ -1,9 +1,8 @@
 -- The table of the names that VAR lists: the places of the names, rising in the order of names, and hints by hash in front of them. Where
 -- no room is left a name is not kept, and the list itself is looked through, from the first such name on. The contracts between our own
 -- functions speak of it; no promise to a user does.
-use Rattle.std.specs.Prelude.{◌≡◌, Bool, true, false, ◌&&◌, ◌||◌, List, [], ◌∷◌, ◌++◌, ℕ, ◌+◌, ◌*◌, ◌%◌, ◌≤◌, ◌<◌, ltb, eqb, length, get_or}
-use Rattle.records.specs.declared.Answer.{Answer}
-use Rattle.records.specs.declared.Answer.TheVariants.{Passed, Refused as AnswerRefused}
+use Rattle.std.specs.Prelude.{◌≡◌, Result, Ok, Err, Bool, true, false, ◌&&◌, ◌||◌, List, [], ◌∷◌, ◌++◌, ℕ, ◌+◌, ◌*◌, ◌%◌, ◌≤◌, ◌<◌, ltb, eqb, length, get_or}
+use Rattle.records.specs.declared.Refusal.{Refusal}
 use Rattle.records.specs.Answers.{number_of}
 use Rattle.std.proofs.Math.Option.{Option, none, some}
 use Rattle.texts.specs.Tokens.{Name, Token, most_text_bytes}
@@ -117,10 +116,10 @@ pub record TableEmpty (text table : List ℕ) (at : ℕ) : Type 0 where
   pub free : (j : ℕ) → 1 ≤ j → get_or table j 0 ≡ 0
 
 -- what reading VAR's names comes to: the place after the parenthesis behind them, and the table filled; or 15
-unfoldable pub VariablesRead : (text : List ℕ) → (at : ℕ) → Option (List Token) → Answer → (table : List ℕ) → Type 0
-VariablesRead text at none x z = (y : _) × (x ≡ AnswerRefused y) × (number_of y ≡ 15)
+unfoldable pub VariablesRead : (text : List ℕ) → (at : ℕ) → Option (List Token) → Result ℕ Refusal → (table : List ℕ) → Type 0
+VariablesRead text at none x z = (y : _) × (x ≡ Err y) × (number_of y ≡ 15)
 VariablesRead text at (some ts) x z =
-    (e : ℕ) × (x ≡ Passed e) × (tokens_at text e ≡ ts) × (e ≤ length text) × VariablesKept text z (listed (tokens_at text at))
+    (e : ℕ) × (x ≡ Ok e) × (tokens_at text e ≡ ts) × (e ≤ length text) × VariablesKept text z (listed (tokens_at text at))
 
 -- two names are to be compared
 pub record CompareAsked (text : List ℕ) (a b : ℕ) : Type 0 where

@@ -7,7 +7,7 @@ ghost use Rattle.texts.specs.TextReading.{listed, after_names};
 ghost use Rattle.text_tokens.specs.Told.{name_at, tokens_at};
 ghost use Rattle.text_names.specs.Table.{hash, hashes, less, Holds, VariablesKept, TableEmpty, VariablesRead, CompareAsked, SeekAsked, PlaceOf, is_kept_at, PutAsked, PutIn, KeepAsked, LookAsked, ScanAsked};
 
-use records::{Answer, Refusal};
+use records::Refusal;
 use text_tokens::Token;
 
 // Hashes lie below this; the factor is odd, so that every character counts in their low bits, by which hints are found.
@@ -36,13 +36,11 @@ pub fn hash(text: &[u8], s: usize) -> usize
     ensures { (result ≡ hash (name_at text.now s)) × (result < hashes) }
 {
     let mut h = 0;
-    let mut i = s;
-    while i < text.len() {
+    for i in s..text.len() {
         if !text_tokens::in_name(text[i]) {
             return h;
         }
-        h = (h + text[i] as usize) * FACTOR % HASHES;
-        i = i + 1;
+        h = (h + usize::from(text[i])) * FACTOR % HASHES;
     }
     h
 }
@@ -53,14 +51,12 @@ fn less_name(text: &[u8], a: usize, b: usize) -> bool
     ensures { result ≡ less (name_at text.now a) (name_at text.now b) }
 {
     let mut i = 0;
-    let mut d = text_tokens::character(text, b);
-    while d != 0 {
-        let c = text_tokens::character(text, a + i);
-        if c != d {
-            return c < d;
+    while let Some(d) = text_tokens::character(text, b + i) {
+        match text_tokens::character(text, a + i) {
+            Some(c) if c == d => i += 1,
+            Some(c) => return c < d,
+            None => return true,
         }
-        i = i + 1;
-        d = text_tokens::character(text, b + i);
     }
     false
 }
@@ -71,10 +67,10 @@ fn search(text: &[u8], table: &[u16], s: usize) -> usize
     ensures { PlaceOf text.now table.now (name_at text.now s) result }
 {
     let mut lo = 0;
-    let mut hi = table[1] as usize;
+    let mut hi = usize::from(table[1]);
     while lo < hi {
         let m = (lo + hi) / 2;
-        if less_name(text, table[NAMES + m] as usize, s) {
+        if less_name(text, usize::from(table[NAMES + m]), s) {
             lo = m + 1;
         } else {
             hi = m;
@@ -88,10 +84,7 @@ fn is_kept_at(text: &[u8], table: &[u16], k: usize, s: usize) -> bool
     requires { SeekAsked text.now table.now s }
     ensures { result ≡ is_kept_at text.now table.now (name_at text.now s) k }
 {
-    if k < table[1] as usize {
-        return text_tokens::same_name(text, table[NAMES + k] as usize, s);
-    }
-    false
+    k < usize::from(table[1]) && text_tokens::same_name(text, usize::from(table[NAMES + k]), s)
 }
 
 // Puts place s in as that of the k-th name kept; those from there on move up.
@@ -99,14 +92,10 @@ fn put(table: &mut [u16], k: usize, s: usize)
     requires { PutAsked table.old k s }
     ensures { PutIn table.old table.new k s }
 {
-    let n = table[1] as usize;
-    let mut j = NAMES + n;
-    while NAMES + k < j {
-        table[j] = table[j - 1];
-        j = j - 1;
-    }
-    table[j] = s as u16;
-    table[1] = (n + 1) as u16;
+    let n = usize::from(table[1]);
+    table.copy_within(NAMES + k..NAMES + n, NAMES + k + 1);
+    table[NAMES + k] = s as u16;
+    table[1] += 1;
 }
 
 // Keeps the name that begins at place s and is next at place i of the list, once, and where room is left.
@@ -119,37 +108,29 @@ fn keep(text: &[u8], table: &mut [u16], i: usize, s: usize)
     if is_kept_at(text, table, k, s) {
         return;
     }
-    if (table[1] as usize) < MOST_KEPT {
+    if usize::from(table[1]) < MOST_KEPT {
         put(table, k, s);
-        return;
+    } else if table[2] == 0 {
+        table[2] = i as u16;
     }
-    if table[2] != 0 {
-        return;
-    }
-    table[2] = i as u16;
 }
 
 // Reads VAR's names from place `at` on and keeps them. Answers the place after the parenthesis behind them.
-pub fn read_variables(text: &[u8], at: usize, table: &mut [u16]) -> Answer
+pub fn read_variables(text: &[u8], at: usize, table: &mut [u16]) -> Result<usize, Refusal>
     requires { TableEmpty text.now table.old at }
     ensures { VariablesRead text.now at (after_names (tokens_at text.now at)) result table.new }
 {
     let mut i = at;
-    while i < text.len() {
+    loop {
         match text_tokens::next_token(text, i) {
             Token::Name(s, e) => {
                 keep(text, table, i, s);
                 i = e;
             }
-            Token::Close(e) => {
-                return Answer::Passed(e);
-            }
-            _ => {
-                return Answer::Refused(Refusal::BadText);
-            }
+            Token::Close(e) => return Ok(e),
+            _ => return Err(Refusal::BadText),
         }
     }
-    Answer::Refused(Refusal::BadText)
 }
 
 // Whether the list that begins at place `at` has the name that begins at place s.
@@ -158,10 +139,7 @@ fn is_listed(text: &[u8], at: usize, s: usize) -> bool
     ensures { result ≡ among (name_at text.now s) (listed (tokens_at text.now at)) }
 {
     let mut i = at;
-    while i < text.len() {
-        let Token::Name(n, e) = text_tokens::next_token(text, i) else {
-            return false;
-        };
+    while let Token::Name(n, e) = text_tokens::next_token(text, i) {
         if text_tokens::same_name(text, s, n) {
             return true;
         }
@@ -175,7 +153,7 @@ pub fn declared(text: &[u8], table: &[u16], s: usize, h: usize) -> bool
     requires { LookAsked text.now table.now s h }
     ensures { (vs : List Name) → VariablesKept text.now table.now vs → result ≡ among (name_at text.now s) vs }
 {
-    let hint = table[FIRST_HINT + h % HINTS] as usize;
+    let hint = usize::from(table[FIRST_HINT + h % HINTS]);
     if hint == 0 {
         return false;
     }
@@ -186,9 +164,6 @@ pub fn declared(text: &[u8], table: &[u16], s: usize, h: usize) -> bool
     if is_kept_at(text, table, k, s) {
         return true;
     }
-    let rest = table[2] as usize;
-    if rest == 0 {
-        return false;
-    }
-    is_listed(text, rest, s)
+    let rest = usize::from(table[2]);
+    rest != 0 && is_listed(text, rest, s)
 }

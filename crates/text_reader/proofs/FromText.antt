@@ -1,4 +1,5 @@
 -- What reading a text comes to: the grammar's answer and the rules kept are the pack in the arrays.
+use Rattle.std.specs.Prelude.{Result, Ok, Err}
 use mathlib.Core.Path.{◌≡◌, refl, sym, ap, ◌∙◌}
 use mathlib.Core.Bool.{true}
 use mathlib.Core.List.{List, [], ◌∷◌, map}
@@ -11,15 +12,12 @@ use lib.Seq.{get_or-take}
 use borrow.Author.Tests.{ltb-true, ltb-false, lt-ltb, le-ltb}
 use Rattle.rewriting.specs.Terms.{Rule, no_rule, rule}
 use Rattle.rewriting.proofs.Basics.{by_test}
-use Rattle.records.specs.declared.Answer.TheVariants.{Passed, Refused as AnswerRefused}
 use Rattle.records.specs.declared.Refusal.{Refusal}
 use Rattle.records.specs.declared.Refusal.TheVariants.{BadText}
 use Rattle.records.specs.Outcomes.{Outcome, refused, passed}
 use Rattle.terms.specs.Sides.{flat}
 use Rattle.terms.specs.Kept.{Kept}
 use Rattle.pack_reader.specs.declared.Counts.{Counts}
-use Rattle.pack_reader.specs.declared.PackRead.{PackRead}
-use Rattle.pack_reader.specs.declared.PackRead.TheVariants.{Refused as PackRefused}
 use Rattle.pack_reader.specs.Stored.{RuleAt}
 use Rattle.pack_reader.proofs.KeptNodes.{kept_left, kept_right}
 use Rattle.pack_writer.specs.Writing.{Writable}
@@ -136,41 +134,35 @@ module _ (t : Text) (bare : variables_bare t ≡ true) (y : Numbering) (c : Coun
       }
 
 -- WHAT THE RULES COME TO is what the text comes to
-rules_meet : (t : Text) → variables_bare t ≡ true → (o : Outcome Numbering) → NumberedAs o t → (r : PackRead) (ar ss ns : List ℕ)
+rules_meet : (t : Text) → variables_bare t ≡ true → (o : Outcome Numbering) → NumberedAs o t → (r : Result Counts Refusal) (ar ss ns : List ℕ)
     → RulesTold o t.rules r ar ss ns → TextTold (judged (some t)) r ar ss ns
 unfolding NumberedAs RulesTold TextTold judged
 rules_meet t bare (refused n) (e, over) r ar ss ns h = rw over h
 rules_meet t bare (passed y) (within, arities_are, nodes_are) r ar ss ns (c, is, k) =
     rw within (c, is, k.room, kept_writable t bare y c ar ss ns k within arities_are nodes_are, k.symbols_few, k.rules_few)
 
-refused_not_passed : {x : Refusal} {n : ℕ} → AnswerRefused x ≡ Passed n → ⊥
-refused_not_passed e = let z : ◌≡◌ {A = ℕ} 0 1 = cc in absurd (omega arith)
-
 -- THE GRAMMAR'S ANSWER: 15, or the rules' place
 module _ (text table : List ℕ) where
-  refused_meets : (o : Option Text) (x : Refusal) (ar ss ns : List ℕ) → GrammarTold text o (AnswerRefused x) table → TextTold (judged o) (PackRefused x) ar ss ns
+  refused_meets : (o : Option Text) (x : Refusal) (ar ss ns : List ℕ) → GrammarTold text o (Err x) table → TextTold (judged o) (Err x) ar ss ns
   unfolding GrammarTold BadAnswer TextTold judged RefusedWith
-  refused_meets none x ar ss ns (y, e, n) = (y, ap PackRefused (same_refusal e), n)
-    where
-      same_refusal : {x y : Refusal} → AnswerRefused x ≡ AnswerRefused y → x ≡ y
-      same_refusal e = cc
-  refused_meets (some t) x ar ss ns (at, e, stand, kept) = absurd (refused_not_passed e)
+  refused_meets none x ar ss ns (y, e, n) = let same : x ≡ y = cc e in (y, rw same, n)
+  refused_meets (some t) x ar ss ns (at, e, stand, kept) = absurd (cc e)
 
   -- no other place, and no refusal
-  rules_found : (o : Option Text) (at : ℕ) → GrammarTold text o (Passed at) table
+  rules_found : (o : Option Text) (at : ℕ) → GrammarTold text o (Ok at) table
       → (t : Text) × (o ≡ some t) × RulesStand text at t.variables t.rules × VariablesKept text table t.variables
   unfolding GrammarTold BadAnswer
-  rules_found none at (y, e, n) = absurd (refused_not_passed (sym e))
+  rules_found none at (y, e, n) = absurd (cc e)
   rules_found (some t) at (here, e, stand, kept) =
       let z : at ≡ here = cc in (t, refl, rw z stand, kept)
 
-  module _ (o : Option Text) (at : ℕ) (told : GrammarTold text o (Passed at) table) where
+  module _ (o : Option Text) (at : ℕ) (told : GrammarTold text o (Ok at) table) where
     pub rules_given : (ar ss ns : List ℕ) → Room ar ss ns → RulesGiven text at table ar ss ns
     rules_given ar ss ns room =
         let f = rules_found o at told in
         record { variables = f.0.variables; kept = f.3; within = f.2.within; room = room }
 
-    passed_meets : (r : PackRead) (ar ss ns : List ℕ)
+    passed_meets : (r : Result Counts Refusal) (ar ss ns : List ℕ)
         → ((vs : List Name) (rs : List TextRule) → VariablesKept text table vs → RulesStand text at vs rs → RulesTold (rules_numbered vs 0 rs none_yet) rs r ar ss ns)
         → TextTold (judged o) r ar ss ns
     unfolding variables_bare
@@ -181,7 +173,7 @@ module _ (text table : List ℕ) where
         rw f.1 (rules_meet t bare _ (numbering_meets t bare) r ar ss ns (h t.variables t.rules f.3 f.2))
 
 -- THE TEXT
-pub too_long : (text ar ss ns : List ℕ) → most_text_bytes < length text → TextTold (read_text text) (PackRefused BadText) ar ss ns
+pub too_long : (text ar ss ns : List ℕ) → most_text_bytes < length text → TextTold (read_text text) (Err BadText) ar ss ns
 unfolding read_text TextTold RefusedWith
 too_long text ar ss ns h = rw (lt-ltb most_text_bytes (length text) h) (BadText, refl, refl)
 
@@ -200,10 +192,10 @@ module _ (text table ar ss ns : List ℕ) (short : length text ≤ most_text_byt
   unfolding read_text
   short_enough = rw (le-ltb most_text_bytes (length text) short)
 
-  pub text_refused : (x : Refusal) → GrammarTold text (parse (tokens text)) (AnswerRefused x) table → TextTold (read_text text) (PackRefused x) ar ss ns
+  pub text_refused : (x : Refusal) → GrammarTold text (parse (tokens text)) (Err x) table → TextTold (read_text text) (Err x) ar ss ns
   text_refused x h = rw short_enough (refused_meets text table _ x ar ss ns h)
 
-  pub text_read : (at : ℕ) → GrammarTold text (parse (tokens text)) (Passed at) table → (r : PackRead)
+  pub text_read : (at : ℕ) → GrammarTold text (parse (tokens text)) (Ok at) table → (r : Result Counts Refusal)
       → ((vs : List Name) (rs : List TextRule) → VariablesKept text table vs → RulesStand text at vs rs → RulesTold (rules_numbered vs 0 rs none_yet) rs r ar ss ns)
       → TextTold (read_text text) r ar ss ns
   text_read at told r h = rw short_enough (passed_meets text table _ at told r ar ss ns h)

@@ -1,11 +1,14 @@
 -- The rules of a text: what numbering them adds, where they begin and end among the tokens, and what a side and a rule come to.
+use Rattle.std.specs.Prelude.{Option, Some, None}
 use mathlib.Core.Path.{◌≡◌, refl, sym, ◌∙◌}
 use mathlib.Core.Bool.{Bool, true, false, ◌&&◌, cond}
 use mathlib.Core.List.{List, [], ◌∷◌, ◌++◌}
-use Prim.Native.Nat.{ℕ, suc, ◌+◌, ◌<◌}
+use Prim.Native.Nat.{ℕ, suc, ◌+◌, ◌≤◌, ◌<◌}
 use native.Mathlib.Omega.{arith}
 use lib.Dec.{leb, ltb, eqb}
-use lib.ListN.{length, length-append}
+use lib.ListN.{length, take, length-append}
+use Rattle.std.proofs.lemmas.List.{length-take-le}
+use lib.Seq.{get_or-take}
 use borrow.Author.Tests.{le-leb, lt-leb}
 use Rattle.records.specs.Outcomes.{Outcome, refused, passed, after}
 use Rattle.records.proofs.Outcomes.{not_passed, passed_same}
@@ -18,15 +21,12 @@ use Rattle.texts.specs.Working.{Numbering, new_rule, variable_numbered, symbol_n
 use Rattle.text_tokens.specs.declared.Token.{Token as ToldToken}
 use Rattle.text_tokens.specs.declared.Token.TheVariants.{Name as ToldName, Open, Close, Comma, Arrow, Bad, End}
 use Rattle.text_tokens.specs.Told.{tokens_at, Told, PlaceIn}
+use Rattle.text_sides.specs.declared.Use.{Use as KeptUse}
 use Rattle.text_sides.specs.declared.SideRead.{SideRead}
-use Rattle.text_sides.specs.declared.SideRead.TheVariants.{Read as Found, Over as TooMany}
-use Rattle.text_sides.specs.Sides.{kept_uses, no_list, Goes, SideTold}
+use Rattle.text_sides.specs.Sides.{use_at, kept_uses, no_list, Goes, SideTold}
+use Rattle.text_sides.proofs.Kept.{kept_same}
 use Rattle.text_reader.specs.declared.numbering.Seen.{Seen}
-use Rattle.text_reader.specs.declared.numbering.Numbered.{Numbered}
-use Rattle.text_reader.specs.declared.numbering.Numbered.TheVariants.{Read as NumberedIs, Over as NumberedOver}
 use Rattle.text_reader.specs.declared.rules.SideKept.{SideKept}
-use Rattle.text_reader.specs.declared.rules.SideKept.TheVariants.{Read as SideIs, Over as SideOver}
-use Rattle.text_reader.specs.declared.rules.RuleKept.TheVariants.{Read as RuleIs, Over as RuleOver}
 use Rattle.text_reader.specs.Tables.{TablesKept, UsesAsked, NumberingGoes, NumberingTold, ReadAsked, ReadOn, SideGoes, SideKeptTold, RuleGoes, RuleTold}
 
 -- A NODE FOR EACH USE
@@ -120,102 +120,107 @@ module _ (text : List ℕ) (at : ℕ) (ts : List Token) (is : tokens_at text at 
 
 -- its numbering is refused, or passed
 module _ (rest : List Token) (text ss ar xs ns : List ℕ) where
-  side_refused : (o : Outcome Numbering) → NumberingTold o text ss ar xs ns NumberedOver → SideKeptTold o rest text ss ar xs ns SideOver
+  side_refused : (o : Outcome Numbering) → NumberingTold o text ss ar xs ns None → SideKeptTold o rest text ss ar xs ns None
   unfolding NumberingTold SideKeptTold
   side_refused (refused m) h = refl
-  side_refused (passed y) (now, e, k) = let w : ◌≡◌ {A = ℕ} 0 1 = cc in absurd (omega arith)
+  side_refused (passed y) h = absurd (cc h.1)
 
-  side_passed : (next : ℕ) (now : Seen) → tokens_at text next ≡ rest → (o : Outcome Numbering) → NumberingTold o text ss ar xs ns (NumberedIs now)
-      → SideKeptTold o rest text ss ar xs ns (SideIs next now)
+  side_passed : (r : SideKept) → tokens_at text r.next ≡ rest → (o : Outcome Numbering) → NumberingTold o text ss ar xs ns (Some r.seen)
+      → SideKeptTold o rest text ss ar xs ns (Some r)
   unfolding NumberingTold SideKeptTold
-  side_passed next now is (refused m) h = let w : ◌≡◌ {A = ℕ} 0 1 = cc in absurd (omega arith)
-  side_passed next now is (passed y) (seen, e, k) = let same : now ≡ seen = cc in (next, seen, rw same, is, k)
+  side_passed r is (refused m) h = absurd (cc)
+  side_passed r is (passed y) h = let same : r.seen ≡ h.0 = cc h.1 in (r, refl, is, rw same h.2)
 
-module _ (text : List ℕ) (at : ℕ) (table found z ss ar xs ns : List ℕ) (seen : Seen) (asked : ReadAsked text at table found ss ar xs ns seen most_nodes) where
+-- the first uses of an array are those that it keeps
+uses_taken : (text : List ℕ) (us : List KeptUse) (n : ℕ) → n ≤ length us → kept_uses text (take n us) (length (take n us)) ≡ kept_uses text us n
+uses_taken text us n h = rw (length-take-le n us h) (kept_same text us (take n us) n (λ k l. get_or-take n us k _ l))
+
+module _ (text : List ℕ) (at : ℕ) (table : List ℕ) (found z : List KeptUse) (ss ar xs ns : List ℕ) (seen : Seen) (asked : ReadAsked text at table found ss ar xs ns seen most_nodes) where
   -- one name too many
-  pub many_goes : {r : SideRead} → r ≡ TooMany → Goes text at 0 r z → SideGoes text at z ss ar xs ns seen.nodes SideOver
+  pub many_goes : Goes text at 0 None z → SideGoes text at z ss ar xs ns seen.nodes None
   unfolding Goes SideGoes
-  many_goes e h =
+  many_goes h =
       let t = asked.tables in
-      record { uses_long = rw e at h; symbols_long = t.symbols_long; arities_long = t.arities_long; variables_long = t.variables_long; nodes_long = t.nodes_long }
+      record { uses_long = h; symbols_long = t.symbols_long; arities_long = t.arities_long; variables_long = t.variables_long; nodes_long = t.nodes_long }
 
-  pub many_told : {r : SideRead} → r ≡ TooMany → (vs : List Name) (x : Numbering) (p : TermPhrase) (rest : List Token) → SideTold text 0 (uses p) rest r found z
-      → SideKeptTold (side_numbered vs p x) rest text ss ar xs ns SideOver
+  pub many_told : (vs : List Name) (x : Numbering) (p : TermPhrase) (rest : List Token) → SideTold text 0 (uses p) rest None found z
+      → SideKeptTold (side_numbered vs p x) rest text ss ar xs ns None
   unfolding SideTold SideKeptTold side_numbered
-  many_told e vs x p rest h =
-      let l : most_nodes < 0 + length (uses p) = rw e at h in
-      rw (lt-leb (length (uses p)) most_nodes (omega arith)) refl
+  many_told vs x p rest h = rw (lt-leb (length (uses p)) most_nodes (omega arith)) refl
 
   -- the names are kept
-  module _ (next n : ℕ) (goes : Goes text at 0 (Found next n) z) where
-    pub uses_asked : UsesAsked text table z n ss ar xs ns seen
+  module _ (r : SideRead) (goes : Goes text at 0 (Some r) z) where
+    abbrev taken : List KeptUse
+    taken = take r.names z
+
+    taken_long : length taken ≡ r.names
+    unfolding Goes
+    taken_long = length-take-le r.names z (omega (arith, goes.0.few, goes.1.long))
+
+    taken_same : (k : ℕ) → k < length taken → use_at taken k ≡ use_at z k
+    taken_same k l = get_or-take r.names z k _ (omega (arith, taken_long))
+
+    pub uses_asked : UsesAsked text table taken ss ar xs ns seen
     unfolding Goes
     uses_asked =
         record {
           names = asked.names;
           kept = asked.kept;
-          places = goes.1;
-          counts_few = goes.1.counts;
-          few = goes.0.few;
+          places = λ k l. rw (taken_same k l) (goes.1.places k (omega (arith, taken_long)));
+          counts_few = λ k l. rw (taken_same k l) (goes.1.counts k (omega (arith, taken_long)));
           tables = asked.tables;
-          room = omega (arith, asked.room, goes.0.few);
+          room = omega (arith, taken_long, asked.room, goes.0.few);
         }
 
     module _ (ss' ar' xs' ns' : List ℕ) where
-      pub over_goes : {q : Numbered} → q ≡ NumberedOver → NumberingGoes text ss' ar' xs' ns' seen.nodes n q → SideGoes text at z ss' ar' xs' ns' seen.nodes SideOver
+      pub over_goes : NumberingGoes text ss' ar' xs' ns' seen.nodes (length taken) None → SideGoes text at z ss' ar' xs' ns' seen.nodes None
       unfolding Goes NumberingGoes SideGoes
-      over_goes e h =
-          let g : NumberingGoes text ss' ar' xs' ns' seen.nodes n NumberedOver = rw e at h in
-          record { uses_long = goes.1.long; symbols_long = g.0; arities_long = g.1; variables_long = g.2; nodes_long = g.3 }
+      over_goes g = record { uses_long = goes.1.long; symbols_long = g.0; arities_long = g.1; variables_long = g.2; nodes_long = g.3 }
 
-      pub side_goes : {q : Numbered} (now : Seen) → q ≡ NumberedIs now → NumberingGoes text ss' ar' xs' ns' seen.nodes n q
-          → SideGoes text at z ss' ar' xs' ns' seen.nodes (SideIs next now)
+      pub side_goes : (now : Seen) → NumberingGoes text ss' ar' xs' ns' seen.nodes (length taken) (Some now)
+          → SideGoes text at z ss' ar' xs' ns' seen.nodes (Some (record { next = r.next; seen = now }))
       unfolding Goes NumberingGoes SideGoes
-      side_goes now e h =
-          let g : NumberingGoes text ss' ar' xs' ns' seen.nodes n (NumberedIs now) = rw e at h in
+      side_goes now g =
           record {
             forth = goes.0.forth;
             within = goes.0.within;
             uses_long = goes.1.long;
             tables = g.0;
-            nodes_few = omega (arith, g.1, goes.0.few);
+            nodes_few = omega (arith, g.1, goes.0.few, taken_long);
           }
 
-      module _ (vs : List Name) (x : Numbering) (p : TermPhrase) (rest : List Token) (told : SideTold text 0 (uses p) rest (Found next n) found z) where
+      module _ (vs : List Name) (x : Numbering) (p : TermPhrase) (rest : List Token) (told : SideTold text 0 (uses p) rest (Some r) found z) where
         -- numbering them is numbering the side
-        numbered_as : uses_numbered vs (kept_uses text z n) x ≡ side_numbered vs p x
+        numbered_as : uses_numbered vs (kept_uses text taken (length taken)) x ≡ side_numbered vs p x
         unfolding Goes SideTold side_numbered kept_uses
         numbered_as =
             let l = goes.0.few in
             let m = told.1.many in
-            rw (told.1.are, le-leb (length (uses p)) most_nodes (omega arith)) refl
+            rw (uses_taken text z r.names (omega (arith, l, goes.1.long)), told.1.are, le-leb (length (uses p)) most_nodes (omega arith)) refl
 
-        pub over_told : {q : Numbered} → q ≡ NumberedOver → NumberingTold (uses_numbered vs (kept_uses text z n) x) text ss' ar' xs' ns' q
-            → SideKeptTold (side_numbered vs p x) rest text ss' ar' xs' ns' SideOver
-        over_told e h = side_refused rest text ss' ar' xs' ns' _ (rw (numbered_as, e) at h)
+        pub over_told : NumberingTold (uses_numbered vs (kept_uses text taken (length taken)) x) text ss' ar' xs' ns' None
+            → SideKeptTold (side_numbered vs p x) rest text ss' ar' xs' ns' None
+        over_told h = side_refused rest text ss' ar' xs' ns' _ (rw numbered_as at h)
 
-        pub side_told : {q : Numbered} (now : Seen) → q ≡ NumberedIs now → NumberingTold (uses_numbered vs (kept_uses text z n) x) text ss' ar' xs' ns' q
-            → SideKeptTold (side_numbered vs p x) rest text ss' ar' xs' ns' (SideIs next now)
+        pub side_told : (now : Seen) → NumberingTold (uses_numbered vs (kept_uses text taken (length taken)) x) text ss' ar' xs' ns' (Some now)
+            → SideKeptTold (side_numbered vs p x) rest text ss' ar' xs' ns' (Some (record { next = r.next; seen = now }))
         unfolding SideTold
-        side_told now e h = side_passed rest text ss' ar' xs' ns' next now told.0 _ (rw (numbered_as, e) at h)
+        side_told now h = side_passed rest text ss' ar' xs' ns' (record { next = r.next; seen = now }) told.0 _ (rw numbered_as at h)
 
 -- A RULE
 
 -- a side that is over a limit was refused, and one that was read was passed
 module _ (rest : List Token) (text ss ar xs ns : List ℕ) where
-  over_refused : (o : Outcome Numbering) {r : SideKept} → r ≡ SideOver → SideKeptTold o rest text ss ar xs ns r → (n : ℕ) × (o ≡ refused n)
+  over_refused : (o : Outcome Numbering) → SideKeptTold o rest text ss ar xs ns None → (n : ℕ) × (o ≡ refused n)
   unfolding SideKeptTold
-  over_refused (refused n) e h = (n, refl)
-  over_refused (passed y) e (a, seen, is, b, h) = let w : ◌≡◌ {A = ℕ} 0 1 = cc in absurd (omega arith)
+  over_refused (refused n) h = (n, refl)
+  over_refused (passed y) h = absurd (cc h.1)
 
-  read_passed : (o : Outcome Numbering) {r : SideKept} (a : ℕ) (seen : Seen) → r ≡ SideIs a seen → SideKeptTold o rest text ss ar xs ns r
-      → (y : Numbering) × (o ≡ passed y) × (tokens_at text a ≡ rest) × TablesKept text ss ar xs ns seen y
+  read_passed : (o : Outcome Numbering) (r : SideKept) → SideKeptTold o rest text ss ar xs ns (Some r)
+      → (y : Numbering) × (o ≡ passed y) × (tokens_at text r.next ≡ rest) × TablesKept text ss ar xs ns r.seen y
   unfolding SideKeptTold
-  read_passed (refused n) a seen e h = let w : ◌≡◌ {A = ℕ} 0 1 = cc in absurd (omega arith)
-  read_passed (passed y) a seen e (b, now, is, rest_is, h) =
-      let place : b ≡ a = cc in
-      let same : now ≡ seen = cc in
-      (y, refl, rw (← place) rest_is, rw (← same) h)
+  read_passed (refused n) r h = absurd (cc)
+  read_passed (passed y) r h = let same : r ≡ h.0 = cc h.1 in (y, refl, rw same h.2, rw same h.3)
 
 module _ (vs : List Name) (x : Numbering) (p : TextRule) (rest : List Token) (text : List ℕ) where
   abbrev after_left : List Token
@@ -226,23 +231,27 @@ module _ (vs : List Name) (x : Numbering) (p : TextRule) (rest : List Token) (te
   arrow_alone = refl
 
   -- its left side was refused
-  pub left_refused : (m : ℕ) (ss ar xs ns : List ℕ) {q : SideKept} → q ≡ SideOver → SideKeptTold (side_numbered vs p.left (new_rule x)) after_left text ss ar xs ns q
-      → RuleTold (rule_numbered vs p x) m rest text ss ar xs ns RuleOver
+  pub left_refused : (m : ℕ) (ss ar xs ns : List ℕ) → SideKeptTold (side_numbered vs p.left (new_rule x)) after_left text ss ar xs ns None
+      → RuleTold (rule_numbered vs p x) m rest text ss ar xs ns None
   unfolding rule_numbered RuleTold
-  left_refused m ss ar xs ns e h = let n = over_refused after_left text ss ar xs ns _ e h in rw n.1 refl
+  left_refused m ss ar xs ns h = let n = over_refused after_left text ss ar xs ns _ h in rw n.1 refl
 
-  -- or it was read up to place a
-  module _ (a : ℕ) (left : Seen) (ss ar xs ns : List ℕ) {q : SideKept} (e : q ≡ SideIs a left) (h : SideKeptTold (side_numbered vs p.left (new_rule x)) after_left text ss ar xs ns q) where
-    came : (y : Numbering) × (side_numbered vs p.left (new_rule x) ≡ passed y) × (tokens_at text a ≡ after_left) × TablesKept text ss ar xs ns left y
-    came = read_passed after_left text ss ar xs ns _ a left e h
+  -- or it was read
+  module _ (left : SideKept) (ss ar xs ns : List ℕ) (h : SideKeptTold (side_numbered vs p.left (new_rule x)) after_left text ss ar xs ns (Some left)) where
+    came : (y : Numbering) × (side_numbered vs p.left (new_rule x) ≡ passed y) × (tokens_at text left.next ≡ after_left) × TablesKept text ss ar xs ns left.seen y
+    came = read_passed after_left text ss ar xs ns _ left h
 
-    pub must_be_arrow : (t : ToldToken) → Told text a t → (b : ℕ) × (t ≡ Arrow b) × (tokens_at text b ≡ spelled p.right ++ rest)
-    must_be_arrow t told = arrow_told text a _ came.2 t told
+    pub must_be_arrow : (t : ToldToken) → Told text left.next t → (b : ℕ) × (t ≡ Arrow b) × (tokens_at text b ≡ spelled p.right ++ rest)
+    must_be_arrow t told = arrow_told text left.next _ came.2 t told
 
-    module _ (b : ℕ) (ss' ar' xs' ns' : List ℕ) (r : SideKept) (moves : Told text a (Arrow b))
-        (told : (y : Numbering) → TablesKept text ss ar xs ns left y → tokens_at text b ≡ spelled p.right ++ rest → SideKeptTold (side_numbered vs p.right y) rest text ss' ar' xs' ns' r) where
-      then_right : SideKeptTold (side_numbered vs p.right came.0) rest text ss' ar' xs' ns' r
-      then_right =
+    module _ (b : ℕ) (ss' ar' xs' ns' : List ℕ) (moves : Told text left.next (Arrow b)) where
+      abbrev RightTells : Option SideKept → Type 0
+      RightTells r =
+          (y : Numbering) → TablesKept text ss ar xs ns left.seen y → tokens_at text b ≡ spelled p.right ++ rest
+          → SideKeptTold (side_numbered vs p.right y) rest text ss' ar' xs' ns' r
+
+      then_right : (r : Option SideKept) → RightTells r → SideKeptTold (side_numbered vs p.right came.0) rest text ss' ar' xs' ns' r
+      then_right r told =
           let t = must_be_arrow (Arrow b) moves in
           let same : t.0 ≡ b = arrow_place t.1 in
           told came.0 came.3 (rw (← same) t.2)
@@ -250,45 +259,46 @@ module _ (vs : List Name) (x : Numbering) (p : TextRule) (rest : List Token) (te
           arrow_place : {c d : ℕ} → Arrow c ≡ Arrow d → d ≡ c
           arrow_place e = cc
 
-      pub right_refused : (m : ℕ) → r ≡ SideOver → RuleTold (rule_numbered vs p x) m rest text ss' ar' xs' ns' RuleOver
+      pub right_refused : (m : ℕ) → RightTells None → RuleTold (rule_numbered vs p x) m rest text ss' ar' xs' ns' None
       unfolding rule_numbered RuleTold
-      right_refused m is = let n = over_refused rest text ss' ar' xs' ns' _ is then_right in rw (came.1, n.1) refl
+      right_refused m told = let n = over_refused rest text ss' ar' xs' ns' _ (then_right None told) in rw (came.1, n.1) refl
 
-      pub rule_read : (end : ℕ) (now : Seen) → r ≡ SideIs end now
-          → RuleTold (rule_numbered vs p x) (length x.nodes + length (uses p.left)) rest text ss' ar' xs' ns' (RuleIs end left.nodes now)
+      pub rule_read : (right : SideKept) → RightTells (Some right)
+          → RuleTold (rule_numbered vs p x) (length x.nodes + length (uses p.left)) rest text ss' ar' xs' ns'
+          (Some (record { next = right.next; middle = left.seen.nodes; seen = right.seen }))
       unfolding rule_numbered RuleTold
-      rule_read end now is =
-          let z = read_passed rest text ss' ar' xs' ns' _ end now is then_right in
-          let middle : left.nodes ≡ length x.nodes + length (uses p.left) = came.3.nodes_many ∙ left_long vs p x came.0 came.1 in
-          rw (came.1, z.1) (end, now, rw middle, z.2, z.3)
+      rule_read right told =
+          let z = read_passed rest text ss' ar' xs' ns' _ right (then_right (Some right) told) in
+          let middle : left.seen.nodes ≡ length x.nodes + length (uses p.left) = came.3.nodes_many ∙ left_long vs p x came.0 came.1 in
+          rw (came.1, z.1) (record { next = right.next; middle = left.seen.nodes; seen = right.seen }, refl, middle, z.2, z.3)
 
 -- whatever is read
-module _ (text : List ℕ) (at : ℕ) (table us ss ar xs ns : List ℕ) (seen : Seen) (asked : ReadAsked text at table us ss ar xs ns seen 64) where
+module _ (text : List ℕ) (at : ℕ) (table : List ℕ) (us : List KeptUse) (ss ar xs ns : List ℕ) (seen : Seen) (asked : ReadAsked text at table us ss ar xs ns seen 64) where
   pub left_asked : ReadAsked text at table us ss ar xs ns seen most_nodes
   left_asked =
       record { names = asked.names; kept = asked.kept; within = asked.within; uses_long = asked.uses_long; tables = asked.tables; room = omega (arith, asked.room) }
 
-  module _ (us' ss' ar' xs' ns' : List ℕ) where
-    pub no_left : {q : SideKept} → q ≡ SideOver → SideGoes text at us' ss' ar' xs' ns' seen.nodes q → RuleGoes text at us' ss' ar' xs' ns' seen.nodes RuleOver
+  module _ (us' : List KeptUse) (ss' ar' xs' ns' : List ℕ) where
+    pub no_left : SideGoes text at us' ss' ar' xs' ns' seen.nodes None → RuleGoes text at us' ss' ar' xs' ns' seen.nodes None
     unfolding SideGoes RuleGoes
-    no_left e h = rw e at h
+    no_left h = h
 
-    module _ (a : ℕ) (left : Seen) {q : SideKept} (e : q ≡ SideIs a left) (goes : SideGoes text at us' ss' ar' xs' ns' seen.nodes q) where
-      left_on : ReadOn text at a us' ss' ar' xs' ns' left (seen.nodes + most_nodes)
+    module _ (left : SideKept) (goes : SideGoes text at us' ss' ar' xs' ns' seen.nodes (Some left)) where
+      left_on : ReadOn text at left.next us' ss' ar' xs' ns' left.seen (seen.nodes + most_nodes)
       unfolding SideGoes
-      left_on = rw e at goes
+      left_on = goes
 
-      pub place_after : PlaceIn text a
+      pub place_after : PlaceIn text left.next
       place_after = record { within = left_on.within; text_short = asked.kept.text_short }
 
-      pub no_right : RuleGoes text at us' ss' ar' xs' ns' seen.nodes RuleOver
+      pub no_right : RuleGoes text at us' ss' ar' xs' ns' seen.nodes None
       unfolding RuleGoes
       no_right =
           let t = left_on.tables in
           record { uses_long = left_on.uses_long; symbols_long = t.symbols_long; arities_long = t.arities_long; variables_long = t.variables_long; nodes_long = t.nodes_long }
 
-      module _ (b : ℕ) (moves : Told text a (Arrow b)) where
-        pub right_asked : ReadAsked text b table us' ss' ar' xs' ns' left most_nodes
+      module _ (b : ℕ) (moves : Told text left.next (Arrow b)) where
+        pub right_asked : ReadAsked text b table us' ss' ar' xs' ns' left.seen most_nodes
         unfolding Told
         right_asked =
             record {
@@ -300,16 +310,15 @@ module _ (text : List ℕ) (at : ℕ) (table us ss ar xs ns : List ℕ) (seen : 
               room = omega (arith, asked.room, left_on.nodes_few);
             }
 
-        module _ (us'' ss'' ar'' xs'' ns'' : List ℕ) {r : SideKept} where
-          pub right_over : r ≡ SideOver → SideGoes text b us'' ss'' ar'' xs'' ns'' left.nodes r → RuleGoes text at us'' ss'' ar'' xs'' ns'' seen.nodes RuleOver
+        module _ (us'' : List KeptUse) (ss'' ar'' xs'' ns'' : List ℕ) where
+          pub right_over : SideGoes text b us'' ss'' ar'' xs'' ns'' left.seen.nodes None → RuleGoes text at us'' ss'' ar'' xs'' ns'' seen.nodes None
           unfolding SideGoes RuleGoes
-          right_over is h = rw is at h
+          right_over h = h
 
-          pub rule_goes : (end : ℕ) (now : Seen) → r ≡ SideIs end now → SideGoes text b us'' ss'' ar'' xs'' ns'' left.nodes r
-              → RuleGoes text at us'' ss'' ar'' xs'' ns'' seen.nodes (RuleIs end left.nodes now)
+          pub rule_goes : (right : SideKept) → SideGoes text b us'' ss'' ar'' xs'' ns'' left.seen.nodes (Some right)
+              → RuleGoes text at us'' ss'' ar'' xs'' ns'' seen.nodes (Some (record { next = right.next; middle = left.seen.nodes; seen = right.seen }))
           unfolding SideGoes RuleGoes Told
-          rule_goes end now is h =
-              let on : ReadOn text b end us'' ss'' ar'' xs'' ns'' now (left.nodes + most_nodes) = rw is at h in
+          rule_goes right on =
               let few = left_on.nodes_few in (
                 record {
                   forth = omega (arith, left_on.forth, moves.forth, on.forth);

@@ -1,4 +1,5 @@
 -- The rules of a text read so far and how they are kept: the invariant of `read_rules`, and what each turn of its loop makes of it.
+use Rattle.std.specs.Prelude.{Option, Some, None, Result, Ok, Err}
 use mathlib.Core.Path.{◌≡◌, refl, sym, ap, ◌∙◌}
 use mathlib.Core.Bool.{true}
 use mathlib.Core.List.{List, [], ◌∷◌, ◌++◌, map-append, append_assoc, append-nil}
@@ -8,12 +9,12 @@ use native.Mathlib.Omega.{arith}
 use lib.ListN.{length, take, set, length-append, length-set}
 use lib.Seq.{take-suc, take-suc-set}
 use borrow.Author.Tests.{lt-ltb, le-ltb}
+use Rattle.records.specs.declared.Refusal.{Refusal}
 use Rattle.records.specs.declared.Refusal.TheVariants.{TextLimits}
 use Rattle.records.specs.Outcomes.{Outcome, refused, passed, after}
 use Rattle.terms.specs.Kept.{codes, starts_room}
 use Rattle.packs.specs.PackReading.{most_rules, most_nodes}
-use Rattle.pack_reader.specs.declared.PackRead.{PackRead}
-use Rattle.pack_reader.specs.declared.PackRead.TheVariants.{Read as PackIs, Refused as PackRefused}
+use Rattle.pack_reader.specs.declared.Counts.{Counts}
 use Rattle.pack_reader.proofs.RulesSoFar.{with_ends}
 use Rattle.texts.specs.Tokens.{Name, Token, name, closes, arrow}
 use Rattle.texts.specs.Spelling.{bare, applied, TermPhrase, TextRule, spelled, spelled_rules}
@@ -22,12 +23,11 @@ use Rattle.texts.specs.Working.{Numbering, none_yet, new_rule, rule_numbered, ru
 use Rattle.text_tokens.specs.declared.Token.{Token as ToldToken}
 use Rattle.text_tokens.specs.declared.Token.TheVariants.{Name as ToldName, Open, Close, Comma, Arrow, Bad, End}
 use Rattle.text_tokens.specs.Told.{tokens_at, Told}
-use Rattle.text_tokens.proofs.Places.{tokens_at_end}
-use Rattle.text_sides.specs.Sides.{uses_room, no_list}
+use Rattle.text_sides.specs.declared.Use.{Use as KeptUse}
+use Rattle.text_sides.specs.Sides.{no_list}
 use Rattle.text_grammar.specs.Grammar.{RulesStand}
 use Rattle.text_reader.specs.declared.numbering.Seen.{Seen}
 use Rattle.text_reader.specs.declared.rules.RuleKept.{RuleKept}
-use Rattle.text_reader.specs.declared.rules.RuleKept.TheVariants.{Read as RuleIs, Over as RuleOver}
 use Rattle.text_reader.specs.Tables.{kept_names, kept_symbol, kept_symbols, TablesKept, TablesGood, NamesKept, ReadAsked, ReadOn, RuleGoes, RuleTold, RulesGiven, RefusedWith, RulesTold}
 use Rattle.text_reader.proofs.OneRule.{rule_long}
 
@@ -87,15 +87,6 @@ module _ (text : List ℕ) (i : ℕ) where
       let n = no_name (is ∙ b.2) t h in
       absurd (other n.0 n.1 n.2)
 
--- tokens are left
-not_ended : (text : List ℕ) (i : ℕ) (rs : List TextRule) → length text ≤ i → i ≤ length text → tokens_at text i ≡ then_closed rs → ⊥
-not_ended text i rs h k is =
-    let e : i ≡ length text = omega arith in
-    go rs (sym (tokens_at_end text) ∙ (rw e at is))
-  where
-    go : (rs : List TextRule) → [] ≡ then_closed rs → ⊥
-    go rs e = let l = length-append (spelled_rules rs) (closes ∷ []) in omega (arith, ap length e)
-
 -- WHERE THE SIDES START
 
 -- one rule more
@@ -149,12 +140,12 @@ abbrev pub between : (count kept : ℕ) → Seen
 between n k = record { symbols = n; variables = 0; nodes = k }
 
 -- whatever is read: the tables are good, and there is room
-pub record GoesOn (text : List ℕ) (i : ℕ) (symbols arities variables found starts nodes : List ℕ) (count kept rules : ℕ) : Type 0 where
+pub record GoesOn (text : List ℕ) (i : ℕ) (symbols arities variables : List ℕ) (found : List KeptUse) (starts nodes : List ℕ) (count kept rules : ℕ) : Type 0 where
   pub within : i ≤ length text
   pub rules_few : rules ≤ most_rules
   pub nodes_few : kept ≤ 64 * rules
   pub starts_long : length starts ≡ starts_room
-  pub uses_long : length found ≡ uses_room
+  pub uses_long : length found ≡ most_nodes
   pub tables : TablesGood text symbols arities variables nodes (between count kept)
 
 -- some rules are done, and what is to come comes to what all come to
@@ -193,7 +184,7 @@ kept_between text ss ar xs ns now y t = record { symbols_are = t.symbols_are; va
 
 -- the arrays as they are lent
 module _ (text : List ℕ) (at : ℕ) (table ar ss ns : List ℕ) (given : RulesGiven text at table ar ss ns) where
-  pub goes_first : (sy xs us : List ℕ) → length sy ≡ 64 → length xs ≡ 16 → length us ≡ 64 → GoesOn text at sy ar xs us (set ss 0 0) ns 0 0 0
+  pub goes_first : (sy xs : List ℕ) (us : List KeptUse) → length sy ≡ 64 → length xs ≡ 16 → length us ≡ 32 → GoesOn text at sy ar xs us (set ss 0 0) ns 0 0 0
   goes_first sy xs us a b c =
       record {
         within = given.within;
@@ -232,23 +223,19 @@ module _ (text : List ℕ) (at : ℕ) (table ar ss ns : List ℕ) (given : Rules
 
 -- A RULE THAT WAS READ was passed, and one that is over a limit was refused
 module _ (m : ℕ) (rest : List Token) (text ss ar xs ns : List ℕ) where
-  rule_refused : (o : Outcome Numbering) {q : RuleKept} → q ≡ RuleOver → RuleTold o m rest text ss ar xs ns q → (n : ℕ) × (o ≡ refused n)
+  rule_refused : (o : Outcome Numbering) → RuleTold o m rest text ss ar xs ns None → (n : ℕ) × (o ≡ refused n)
   unfolding RuleTold
-  rule_refused (refused n) e h = (n, refl)
-  rule_refused (passed y) e (a, seen, is, b, h) = let w : ◌≡◌ {A = ℕ} 0 1 = cc in absurd (omega arith)
+  rule_refused (refused n) h = (n, refl)
+  rule_refused (passed y) h = absurd (cc h.1)
 
-  rule_passed : (o : Outcome Numbering) {q : RuleKept} (next middle : ℕ) (now : Seen) → q ≡ RuleIs next middle now → RuleTold o m rest text ss ar xs ns q
-      → (z : Numbering) × (o ≡ passed z) × (middle ≡ m) × (tokens_at text next ≡ rest) × TablesKept text ss ar xs ns now z
+  rule_passed : (o : Outcome Numbering) (r : RuleKept) → RuleTold o m rest text ss ar xs ns (Some r)
+      → (z : Numbering) × (o ≡ passed z) × (r.middle ≡ m) × (tokens_at text r.next ≡ rest) × TablesKept text ss ar xs ns r.seen z
   unfolding RuleTold
-  rule_passed (refused n) next middle now e h = let w : ◌≡◌ {A = ℕ} 0 1 = cc in absurd (omega arith)
-  rule_passed (passed z) next middle now e (a, seen, is, b, h) =
-      let place : a ≡ next = cc in
-      let same : seen ≡ now = cc in
-      let half : middle ≡ m = cc in
-      (z, refl, half, rw (← place) b, rw (← same) h)
+  rule_passed (refused n) r h = absurd (cc)
+  rule_passed (passed z) r h = let same : r ≡ h.0 = cc h.1 in (z, refl, rw same h.2, rw same h.3, rw same h.4)
 
 -- ONE TURN, whatever is read
-module _ (text : List ℕ) (i : ℕ) (sy ar xs us ss ns : List ℕ) (count kept rules : ℕ) (g : GoesOn text i sy ar xs us ss ns count kept rules) where
+module _ (text : List ℕ) (i : ℕ) (sy ar xs : List ℕ) (us : List KeptUse) (ss ns : List ℕ) (count kept rules : ℕ) (g : GoesOn text i sy ar xs us ss ns count kept rules) where
   pub rule_asked : (at : ℕ) (table o p q : List ℕ) → RulesGiven text at table o p q → rules < most_rules → ReadAsked text i table us sy ar xs ns (between count kept) 64
   rule_asked at table o p q given h =
       record {
@@ -260,16 +247,16 @@ module _ (text : List ℕ) (i : ℕ) (sy ar xs us ss ns : List ℕ) (count kept 
         room = omega (arith, g.nodes_few);
       }
 
-  module _ (sy' ar' xs' us' ns' : List ℕ) (next middle : ℕ) (now : Seen) {q : RuleKept} (e : q ≡ RuleIs next middle now) (goes : RuleGoes text i us' sy' ar' xs' ns' kept q) where
-    rule_on : ReadOn text i next us' sy' ar' xs' ns' now (kept + 2 * most_nodes) × (middle ≤ kept + most_nodes)
+  module _ (sy' ar' xs' : List ℕ) (us' : List KeptUse) (ns' : List ℕ) (r : RuleKept) (goes : RuleGoes text i us' sy' ar' xs' ns' kept (Some r)) where
+    rule_on : ReadOn text i r.next us' sy' ar' xs' ns' r.seen (kept + 2 * most_nodes) × (r.middle ≤ kept + most_nodes)
     unfolding RuleGoes
-    rule_on = rw e at goes
+    rule_on = goes
 
     -- the place rises, and all places are small
-    pub rule_bounds : (i < next) × (next ≤ length text) × (middle ≤ kept + 32) × (now.nodes ≤ kept + 64)
+    pub rule_bounds : (i < r.next) × (r.next ≤ length text) × (r.middle ≤ kept + 32) × (r.seen.nodes ≤ kept + 64)
     rule_bounds = (rule_on.0.forth, rule_on.0.within, rule_on.1, omega (arith, rule_on.0.nodes_few))
 
-    pub goes_more : rules < most_rules → (m : ℕ) → GoesOn text next sy' ar' xs' us' (with_ends ss rules m now.nodes) ns' now.symbols now.nodes (rules + 1)
+    pub goes_more : rules < most_rules → (m : ℕ) → GoesOn text r.next sy' ar' xs' us' (with_ends ss rules m r.seen.nodes) ns' r.seen.symbols r.seen.nodes (rules + 1)
     goes_more h m =
         record {
           within = rule_on.0.within;
@@ -277,22 +264,22 @@ module _ (text : List ℕ) (i : ℕ) (sy ar xs us ss ns : List ℕ) (count kept 
           nodes_few = omega (arith, g.nodes_few, rule_on.0.nodes_few);
           starts_long = simp length-set g.starts_long;
           uses_long = rule_on.0.uses_long;
-          tables = good_between text sy' ar' xs' ns' now rule_on.0.tables;
+          tables = good_between text sy' ar' xs' ns' r.seen rule_on.0.tables;
         }
 
 -- what the rules come to
 module _ (text : List ℕ) (i : ℕ) (vs : List Name) (rs : List TextRule) (sy ar xs ss ns : List ℕ) (count kept rules : ℕ)
     (s : SoFar text i vs rs sy ar xs ss ns count kept rules) where
-  abbrev AllTold : PackRead → (arities starts nodes : List ℕ) → Type 0
+  abbrev AllTold : Result Counts Refusal → (arities starts nodes : List ℕ) → Type 0
   AllTold r o p q = RulesTold (rules_numbered vs 0 rs none_yet) rs r o p q
 
-  refuses : (n : ℕ) (o p q : List ℕ) → rules_numbered vs rules s.coming s.numbering ≡ refused n → AllTold (PackRefused TextLimits) o p q
+  refuses : (n : ℕ) (o p q : List ℕ) → rules_numbered vs rules s.coming s.numbering ≡ refused n → AllTold (Err TextLimits) o p q
   unfolding RulesTold RefusedWith
   refuses n o p q e = rw (s.comes ∙ e) (TextLimits, refl, refl)
 
   -- THE END
-  module _ (us : List ℕ) (g : GoesOn text i sy ar xs us ss ns count kept rules) where
-    none_left : s.coming ≡ [] → AllTold (PackIs (record { symbols = count; rules = rules })) ar ss ns
+  module _ (us : List KeptUse) (g : GoesOn text i sy ar xs us ss ns count kept rules) where
+    none_left : s.coming ≡ [] → AllTold (Ok (record { symbols = count; rules = rules })) ar ss ns
     unfolding RulesTold rules_numbered
     none_left e =
         let all : rs ≡ s.done = s.split ∙ rw e (append-nil s.done) in
@@ -314,47 +301,47 @@ module _ (text : List ℕ) (i : ℕ) (vs : List Name) (rs : List TextRule) (sy a
           },
         )
 
-    pub ends : (t : ToldToken) → Told text i t → ((a e : ℕ) → t ≡ ToldName a e → ⊥) → AllTold (PackIs (record { symbols = count; rules = rules })) ar ss ns
+    pub ends : (t : ToldToken) → Told text i t → ((a e : ℕ) → t ≡ ToldName a e → ⊥) → AllTold (Ok (record { symbols = count; rules = rules })) ar ss ns
     ends t told other = none_left (no_rule_more text i s.coming t s.are told other)
-
-    -- a text does not end before its last parenthesis
-    pub ends_early : length text ≤ i → AllTold (PackIs (record { symbols = count; rules = rules })) ar ss ns
-    ends_early h = absurd (not_ended text i s.coming h g.within s.are)
 
   -- A RULE
   module _ (a b : ℕ) (named : Told text i (ToldName a b)) where
     this : (r : TextRule) × (es : List TextRule) × (s.coming ≡ r ∷ es)
     this = named_rule text i s.coming a b s.are named
 
-    pub too_many_rules : (o p q : List ℕ) → most_rules ≤ rules → AllTold (PackRefused TextLimits) o p q
+    pub too_many_rules : (o p q : List ℕ) → most_rules ≤ rules → AllTold (Err TextLimits) o p q
     unfolding rules_numbered
     too_many_rules o p q h = refuses 16 o p q (rw (this.2, le-ltb rules most_rules h) refl)
 
-    module _ (few : rules < most_rules) (sy' ar' xs' ns' : List ℕ) (q : RuleKept)
-        (told : (p : TextRule) (rest : List Token) → tokens_at text i ≡ spelled p.left ++ (arrow ∷ (spelled p.right ++ rest)) → no_list rest ≡ true
-        → RuleTold (rule_numbered vs p s.numbering) (length s.numbering.nodes + length (uses p.left)) rest text sy' ar' xs' ns' q) where
-      rule_told : RuleTold (rule_numbered vs this.0 s.numbering) (length s.numbering.nodes + length (uses this.0.left)) (then_closed this.1) text sy' ar' xs' ns' q
-      rule_told = told this.0 (then_closed this.1) (s.are ∙ ap then_closed this.2 ∙ behind_rule this.0 this.1) (no_list_behind this.1)
+    module _ (few : rules < most_rules) (sy' ar' xs' ns' : List ℕ) where
+      abbrev RuleTells : Option RuleKept → Type 0
+      RuleTells q =
+          (p : TextRule) (rest : List Token) → tokens_at text i ≡ spelled p.left ++ (arrow ∷ (spelled p.right ++ rest)) → no_list rest ≡ true
+          → RuleTold (rule_numbered vs p s.numbering) (length s.numbering.nodes + length (uses p.left)) rest text sy' ar' xs' ns' q
+
+      rule_told : (q : Option RuleKept) → RuleTells q
+          → RuleTold (rule_numbered vs this.0 s.numbering) (length s.numbering.nodes + length (uses this.0.left)) (then_closed this.1) text sy' ar' xs' ns' q
+      rule_told q told = told this.0 (then_closed this.1) (s.are ∙ ap then_closed this.2 ∙ behind_rule this.0 this.1) (no_list_behind this.1)
 
       then_others : rules_numbered vs rules s.coming s.numbering ≡ after (rule_numbered vs this.0 s.numbering) (λ y. rules_numbered vs (rules + 1) this.1 y)
       unfolding rules_numbered
       then_others = ap (λ (l : List TextRule). rules_numbered vs rules l s.numbering) this.2 ∙ rw (lt-ltb rules most_rules few, add-one rules) refl
 
-      pub rule_over : (o p z : List ℕ) → q ≡ RuleOver → AllTold (PackRefused TextLimits) o p z
-      rule_over o p z e = let n = rule_refused _ _ text sy' ar' xs' ns' _ e rule_told in refuses n.0 o p z (then_others ∙ ap (λ (o : Outcome Numbering). after o (λ y. rules_numbered vs (rules + 1) this.1 y)) n.1)
+      pub rule_over : (o p z : List ℕ) → RuleTells None → AllTold (Err TextLimits) o p z
+      rule_over o p z told = let n = rule_refused _ _ text sy' ar' xs' ns' _ (rule_told None told) in refuses n.0 o p z (then_others ∙ ap (λ (o : Outcome Numbering). after o (λ y. rules_numbered vs (rules + 1) this.1 y)) n.1)
 
-      pub more : (next middle : ℕ) (now : Seen) → q ≡ RuleIs next middle now → length ss ≡ starts_room
-          → SoFar text next vs rs sy' ar' xs' (with_ends ss rules middle now.nodes) ns' now.symbols now.nodes (rules + 1)
-      more next middle now e long =
+      pub more : (q : RuleKept) → RuleTells (Some q) → length ss ≡ starts_room
+          → SoFar text q.next vs rs sy' ar' xs' (with_ends ss rules q.middle q.seen.nodes) ns' q.seen.symbols q.seen.nodes (rules + 1)
+      more q told long =
           let r = this.0 in
           let es = this.1 in
-          let w = rule_passed _ _ text sy' ar' xs' ns' _ next middle now e rule_told in
+          let w = rule_passed _ _ text sy' ar' xs' ns' _ q (rule_told (Some q) told) in
           let z = w.0 in
           let t = w.4 in
           let grown = rule_long vs r s.numbering z w.1 in
           let nodes : kept ≡ length s.numbering.nodes = s.tables.nodes_many in
-          let m : middle ≡ 0 + length (rules_uses s.done) + length (uses r.left) = omega (arith, w.2, s.nodes_are) in
-          let end : now.nodes ≡ 0 + length (rules_uses s.done) + length (uses r.left) + length (uses r.right) = omega (arith, s.nodes_are, t.nodes_many) in
+          let m : q.middle ≡ 0 + length (rules_uses s.done) + length (uses r.left) = omega (arith, w.2, s.nodes_are) in
+          let end : q.seen.nodes ≡ 0 + length (rules_uses s.done) + length (uses r.left) + length (uses r.right) = omega (arith, s.nodes_are, t.nodes_many) in
           record {
             done = s.done ++ (r ∷ []);
             coming = es;
@@ -364,6 +351,6 @@ module _ (text : List ℕ) (i : ℕ) (vs : List Name) (rs : List TextRule) (sy a
             comes = s.comes ∙ then_others ∙ ap (λ (o : Outcome Numbering). after o (λ y. rules_numbered vs (rules + 1) this.1 y)) w.1;
             rules_are = omega (arith, length-append s.done (r ∷ []), s.rules_are);
             nodes_are = omega (arith, uses_more s.done r);
-            starts_are = starts_more ss rules middle now.nodes (omega arith) ∙ rw (s.starts_are, m, end) (ap (λ (l : List ℕ). 0 ∷ l) (sym (ends_more 0 s.done r)));
-            tables = kept_between text sy' ar' xs' ns' now z t;
+            starts_are = starts_more ss rules q.middle q.seen.nodes (omega arith) ∙ rw (s.starts_are, m, end) (ap (λ (l : List ℕ). 0 ∷ l) (sym (ends_more 0 s.done r)));
+            tables = kept_between text sy' ar' xs' ns' q.seen z t;
           }

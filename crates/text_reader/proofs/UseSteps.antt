@@ -1,17 +1,16 @@
 -- Numbering a use: what the tables come to is what the numbering comes to, and they stay good.
+use Rattle.std.specs.Prelude.{Some, None}
 use mathlib.Core.Path.{◌≡◌, refl, sym, ap, ◌∙◌}
-use mathlib.Core.Bool.{Bool, true, false, ◌&&◌, cond}
+use mathlib.Core.Bool.{Bool, true, false, ◌&&◌}
 use mathlib.Core.List.{List, [], ◌∷◌, ◌++◌, map-append}
-use Prim.Native.Nat.{ℕ, ◌+◌, ◌≤◌, ◌<◌}
+use Prim.Native.Nat.{ℕ, max, ◌+◌, ◌≤◌, ◌<◌}
 use native.Mathlib.Numerals.{add-one}
 use native.Mathlib.Omega.{arith}
-use lib.Dec.{ltb, leb, eqb}
+use lib.Dec.{ltb, leb}
 use lib.ListN.{length, get_or, take, set, length-append, length-set}
 use lib.Seq.{take-suc-set}
 use borrow.Author.Tests.{lt-ltb, le-ltb, le-leb, eq-eqb, ne_eqb}
 use Rattle.rewriting.proofs.Basics.{and_both, cond_true, cond_false}
-use Rattle.records.specs.declared.Answer.TheVariants.{Passed, Refused as AnswerRefused}
-use Rattle.records.specs.declared.Refusal.{Refusal}
 use Rattle.records.specs.Outcomes.{refused, passed}
 use Rattle.terms.specs.Sides.{Node, variable, symbol}
 use Rattle.terms.specs.Kept.{code, codes, symbols_room}
@@ -23,7 +22,6 @@ use Rattle.texts.specs.Working.{Numbering, variable_numbered, symbol_numbered, u
 use Rattle.texts.proofs.Places.{place_below}
 use Rattle.text_tokens.specs.Told.{name_at}
 use Rattle.text_reader.specs.declared.numbering.Seen.{Seen}
-use Rattle.text_reader.specs.declared.numbering.Numbered.TheVariants.{Read as NumberedIs, Over as NumberedOver}
 use Rattle.text_reader.specs.Tables.{kept_names, NamesKept, NameGiven, with_name, VariableTold, variable_known, variable_new, variables_full, SymbolTold, symbol_known, symbol_new, other_count, symbol_over, a_use, TablesKept, TablesGood, NumberingTold}
 use Rattle.text_reader.proofs.Entries.{kept_names_long, names_and_one, kept_and_one, kept_symbols_names, kept_symbols_long, first_kept, symbols_and_one}
 
@@ -90,13 +88,13 @@ counts a b k = record { symbols = a; variables = b; nodes = k }
 
 -- how many there are once number i was given
 abbrev once_given : (n i : ℕ) → ℕ
-once_given n i = cond (eqb i n) (n + 1) n
+once_given n i = max n (i + 1)
 
 given_again : (n i : ℕ) → i < n → once_given n i ≡ n
-given_again n i h = rw (ne_eqb i n (λ e. omega arith))
+given_again n i h = omega arith
 
 given_next : (n : ℕ) → once_given n n ≡ n + 1
-given_next n = rw (eq-eqb n n refl)
+given_next n = omega arith
 
 module _ (text : List ℕ) (s h : ℕ) (g : NameGiven text s h) where
   place_small : s < 65536
@@ -108,11 +106,11 @@ module _ (text : List ℕ) (s h : ℕ) (g : NameGiven text s h) where
 
   -- VARIABLES
   module _ (xs zs : List ℕ) (b : ℕ) where
-    pub variable_small : (v : ℕ) → b ≤ variable_count → VariableTold text s h xs zs b (Passed v) → v < variable_count
+    pub variable_small : (v : ℕ) → b ≤ variable_count → VariableTold text s h xs zs b (Some v) → v < variable_count
     variable_small v few (variable_known _ e m z) = let l = found_below xs b v e m in omega arith
     variable_small v few (variable_new m l z) = l
 
-    variables_good : (v : ℕ) → length xs ≡ variable_count → b ≤ variable_count → NamesKept text xs b → VariableTold text s h xs zs b (Passed v)
+    variables_good : (v : ℕ) → length xs ≡ variable_count → b ≤ variable_count → NamesKept text xs b → VariableTold text s h xs zs b (Some v)
         → (length zs ≡ variable_count) × (once_given b v ≤ variable_count) × NamesKept text zs (once_given b v)
     unfolding with_name
     variables_good v long few kept (variable_known _ e m z) = rw (z, given_again b v (found_below xs b v e m)) (long, few, kept)
@@ -120,7 +118,7 @@ module _ (text : List ℕ) (s h : ℕ) (g : NameGiven text s h) where
         rw (z, given_next b) (length-set xs b _ ∙ long, omega arith, kept_and_one text xs b s h (omega arith) place_small kept g.within g.hash_is)
 
   module _ (ss ar xs zs ns : List ℕ) (a b k : ℕ) where
-    pub variable_good : (v c m : ℕ) → TablesGood text ss ar xs ns (counts a b k) → VariableTold text s h xs zs b (Passed v) → m ≡ once_given b v
+    pub variable_good : (v c m : ℕ) → TablesGood text ss ar xs ns (counts a b k) → VariableTold text s h xs zs b (Some v) → m ≡ once_given b v
         → TablesGood text ss ar zs (set ns k c) (counts a m (k + 1))
     variable_good v c m t told e =
         let z = variables_good xs zs b v t.variables_long t.variables_few t.variables_kept told in
@@ -142,8 +140,8 @@ module _ (text : List ℕ) (s h : ℕ) (g : NameGiven text s h) where
       variables_many : length x.variables ≡ b
       variables_many = ap length (sym t.variables_are) ∙ kept_names_long text xs b
 
-      pub variable_told : (v c m : ℕ) → c ≡ 64 + v → length xs ≡ variable_count → VariableTold text s h xs zs b (Passed v) → m ≡ once_given b v
-          → NumberingTold (variable_numbered (name_at text s) x) text ss ar zs (set ns k c) (NumberedIs (counts a m (k + 1)))
+      pub variable_told : (v c m : ℕ) → c ≡ 64 + v → length xs ≡ variable_count → VariableTold text s h xs zs b (Some v) → m ≡ once_given b v
+          → NumberingTold (variable_numbered (name_at text s) x) text ss ar zs (set ns k c) (Some (counts a m (k + 1)))
       unfolding NumberingTold code
       variable_told v c m is long (variable_known _ e among z) count =
           rw (variable_again (name_at text s) x (variables_as true among), z, count, given_again b v (found_below xs b v e among)) (
@@ -168,19 +166,19 @@ module _ (text : List ℕ) (s h : ℕ) (g : NameGiven text s h) where
             },
           )
 
-      pub variable_over : (y : Refusal) → VariableTold text s h xs zs b (AnswerRefused y) → (us vs ws ks : List ℕ)
-          → NumberingTold (variable_numbered (name_at text s) x) text us vs ws ks NumberedOver
+      pub variable_over : VariableTold text s h xs zs b None → (us vs ws ks : List ℕ)
+          → NumberingTold (variable_numbered (name_at text s) x) text us vs ws ks None
       unfolding NumberingTold
-      variable_over y (variables_full _ among l) us vs ws ks =
+      variable_over (variables_full among l) us vs ws ks =
           rw (variable_too_many (name_at text s) x (variables_as false among) (omega (arith, variables_many)))
 
   -- SYMBOLS
   module _ (count : ℕ) (ss zs ar br : List ℕ) (a : ℕ) where
-    pub symbol_small : (f : ℕ) → a ≤ most_symbols → SymbolTold text s h count ss zs ar br a (Passed f) → f < most_symbols
+    pub symbol_small : (f : ℕ) → a ≤ most_symbols → SymbolTold text s h count ss zs ar br a (Some f) → f < most_symbols
     symbol_small f few (symbol_known _ e m is z q) = let l = found_below ss a f e m in omega arith
     symbol_small f few (symbol_new m l is z q) = l
 
-    symbols_good : (f : ℕ) → length ss ≡ symbols_room → length ar ≡ symbols_room → a ≤ most_symbols → NamesKept text ss a → SymbolTold text s h count ss zs ar br a (Passed f)
+    symbols_good : (f : ℕ) → length ss ≡ symbols_room → length ar ≡ symbols_room → a ≤ most_symbols → NamesKept text ss a → SymbolTold text s h count ss zs ar br a (Some f)
         → (length zs ≡ symbols_room) × (length br ≡ symbols_room) × (once_given a f ≤ most_symbols) × NamesKept text zs (once_given a f)
     unfolding with_name
     symbols_good f long also few kept (symbol_known _ e m is z q) = rw (z, q, given_again a f (found_below ss a f e m)) (long, also, few, kept)
@@ -188,7 +186,7 @@ module _ (text : List ℕ) (s h : ℕ) (g : NameGiven text s h) where
         rw (z, q, given_next a) (length-set ss a _ ∙ long, length-set ar a count ∙ also, omega arith, kept_and_one text ss a s h (omega arith) place_small kept g.within g.hash_is)
 
     module _ (xs ns : List ℕ) (b k : ℕ) where
-      pub symbol_good : (f c m : ℕ) → TablesGood text ss ar xs ns (counts a b k) → SymbolTold text s h count ss zs ar br a (Passed f) → m ≡ once_given a f
+      pub symbol_good : (f c m : ℕ) → TablesGood text ss ar xs ns (counts a b k) → SymbolTold text s h count ss zs ar br a (Some f) → m ≡ once_given a f
           → TablesGood text zs br xs (set ns k c) (counts m b (k + 1))
       symbol_good f c m t told e =
           let z = symbols_good f t.symbols_long t.arities_long t.symbols_few t.symbols_kept told in
@@ -217,8 +215,8 @@ module _ (text : List ℕ) (s h : ℕ) (g : NameGiven text s h) where
             → get_or ar (place (name_at text s) (kept_names text ss a)) 0 ≡ first_count (name_at text s) x.symbols
         first_as m = sym (first_kept text ss ar (name_at text s) a m) ∙ ap (λ l. first_count (name_at text s) l) t.symbols_are
 
-        pub symbol_told : (f c m : ℕ) → c ≡ f → length ss ≡ symbols_room → length ar ≡ symbols_room → SymbolTold text s h count ss zs ar br a (Passed f) → m ≡ once_given a f
-            → NumberingTold (symbol_numbered (a_use text s count) x) text zs br xs (set ns k c) (NumberedIs (counts m b (k + 1)))
+        pub symbol_told : (f c m : ℕ) → c ≡ f → length ss ≡ symbols_room → length ar ≡ symbols_room → SymbolTold text s h count ss zs ar br a (Some f) → m ≡ once_given a f
+            → NumberingTold (symbol_numbered (a_use text s count) x) text zs br xs (set ns k c) (Some (counts m b (k + 1)))
         unfolding NumberingTold code a_use
         symbol_told f c m is long also (symbol_known _ e among agree z q) given =
             rw (
@@ -255,10 +253,10 @@ module _ (text : List ℕ) (s h : ℕ) (g : NameGiven text s h) where
               },
             )
 
-        pub symbol_refused : (y : Refusal) → SymbolTold text s h count ss zs ar br a (AnswerRefused y) → (us vs ws ks : List ℕ)
-            → NumberingTold (symbol_numbered (a_use text s count) x) text us vs ws ks NumberedOver
+        pub symbol_refused : SymbolTold text s h count ss zs ar br a None → (us vs ws ks : List ℕ)
+            → NumberingTold (symbol_numbered (a_use text s count) x) text us vs ws ks None
         unfolding NumberingTold a_use
-        symbol_refused y (other_count _ among differ) us vs ws ks =
+        symbol_refused (other_count among differ) us vs ws ks =
             rw (symbol_differs (a_use text s count) x (symbols_as true among) (λ e. differ (e ∙ sym (first_as among))))
-        symbol_refused y (symbol_over _ among over) us vs ws ks =
+        symbol_refused (symbol_over among over) us vs ws ks =
             rw (symbol_too_many (a_use text s count) x (symbols_as false among) (rw symbols_many over))

@@ -1,42 +1,35 @@
 -- Numbering one use after the other: what the uses so far come to, and what all come to.
-use mathlib.Core.Path.{◌≡◌, refl, sym, ap, ◌∙◌}
-use mathlib.Core.Bool.{Bool, true, false, false≢true}
+use Rattle.std.specs.Prelude.{Option, Some, None}
+use mathlib.Core.Path.{◌≡◌, refl, ap, ◌∙◌}
 use mathlib.Core.List.{List, [], ◌∷◌, ◌++◌}
 use Prim.Native.Nat.{ℕ, suc, ◌+◌, ◌-◌, ◌<◌}
 use native.Mathlib.Numerals.{add-one}
 use native.Mathlib.Omega.{arith}
-use lib.ListN.{get_or}
 use Rattle.records.specs.Outcomes.{Outcome, refused, passed, after}
-use Rattle.packs.specs.PackReading.{most_nodes}
 use Rattle.texts.specs.Tokens.{Name}
 use Rattle.texts.specs.Numbers.{Use}
 use Rattle.texts.specs.Working.{Numbering, use_numbered, uses_numbered}
 use Rattle.text_names.specs.Table.{VariablesKept}
-use Rattle.text_sides.specs.Sides.{kept_use, kept_uses}
+use Rattle.text_sides.specs.declared.Use.{Use as KeptUse}
+use Rattle.text_sides.specs.Sides.{use_at, kept_use, kept_uses}
 use Rattle.text_reader.specs.declared.numbering.Seen.{Seen}
-use Rattle.text_reader.specs.declared.numbering.Numbered.{Numbered}
-use Rattle.text_reader.specs.declared.numbering.Numbered.TheVariants.{Read as NumberedIs, Over as NumberedOver}
 use Rattle.text_reader.specs.Tables.{a_use, TablesKept, TablesGood, NumberingGoes, NumberingTold}
 use Rattle.text_reader.proofs.Entries.{grown}
 
 -- WHAT WAS TOLD by an answer
-unfoldable is_over : Numbered → Bool
-is_over (NumberedIs y) = false
-is_over NumberedOver = true
-
 module _ (text ss ar xs ns : List ℕ) where
-  told_passed : (y : Seen) (o : Outcome Numbering) → NumberingTold o text ss ar xs ns (NumberedIs y)
+  told_passed : (y : Seen) (o : Outcome Numbering) → NumberingTold o text ss ar xs ns (Some y)
       → (z : Numbering) × (o ≡ passed z) × TablesKept text ss ar xs ns y z
-  unfolding NumberingTold is_over
-  told_passed y (refused n) h = absurd (false≢true (ap is_over h))
+  unfolding NumberingTold
+  told_passed y (refused n) h = absurd (cc)
   told_passed y (passed z) h =
       let e : y ≡ h.0 = cc h.1 in
       (z, refl, rw e h.2)
 
-  told_refused : (o : Outcome Numbering) → NumberingTold o text ss ar xs ns NumberedOver → (n : ℕ) × (o ≡ refused n)
-  unfolding NumberingTold is_over
+  told_refused : (o : Outcome Numbering) → NumberingTold o text ss ar xs ns None → (n : ℕ) × (o ≡ refused n)
+  unfolding NumberingTold
   told_refused (refused n) h = (n, refl)
-  told_refused (passed z) h = absurd (false≢true (sym (ap is_over h.1)))
+  told_refused (passed z) h = absurd (cc h.1)
 
 -- ONE AFTER THE OTHER
 pub uses_after : (vs : List Name) (us ws : List Use) (x : Numbering) → uses_numbered vs (us ++ ws) x ≡ after (uses_numbered vs us x) (λ y. uses_numbered vs ws y)
@@ -62,7 +55,7 @@ uses_and_one vs us u x y e = uses_after vs us (u ∷ []) x ∙ rw e (go (use_num
 uses_refused : (vs : List Name) (us ws : List Use) (x : Numbering) (n : ℕ) → uses_numbered vs us x ≡ refused n → uses_numbered vs (us ++ ws) x ≡ refused n
 uses_refused vs us ws x n e = uses_after vs us ws x ∙ rw e
 
-kept_uses_more : (text found : List ℕ) (k : ℕ) → kept_uses text found (suc k) ≡ kept_uses text found k ++ (kept_use text found k ∷ [])
+kept_uses_more : (text : List ℕ) (found : List KeptUse) (k : ℕ) → kept_uses text found (suc k) ≡ kept_uses text found k ++ (kept_use text found k ∷ [])
 unfolding kept_uses
 kept_uses_more text found k = refl
 
@@ -73,7 +66,7 @@ pub record ComesTo (vs : List Name) (us : List Use) (x : Numbering) (text ss ar 
   pub kept : TablesKept text ss ar xs ns seen numbering
 
 -- THE FIRST k USES are numbered; the arrays and counts with ₀ are those before
-module _ (text table found ss₀ ar₀ xs₀ ns₀ : List ℕ) (seen₀ : Seen) where
+module _ (text table : List ℕ) (found : List KeptUse) (ss₀ ar₀ xs₀ ns₀ : List ℕ) (seen₀ : Seen) where
   pub record SoFar (ss ar xs ns : List ℕ) (seen : Seen) (k : ℕ) : Type 0 where
     pub tables : TablesGood text ss ar xs ns seen
     pub nodes_many : seen.nodes ≡ seen₀.nodes + k
@@ -86,20 +79,20 @@ module _ (text table found ss₀ ar₀ xs₀ ns₀ : List ℕ) (seen₀ : Seen) 
 
   module _ (ss ar xs ns : List ℕ) (seen : Seen) (k : ℕ) (so : SoFar ss ar xs ns seen k) where
     -- what the next use comes to
-    abbrev NextTold : (zs br ys ms : List ℕ) → Numbered → Type 0
+    abbrev NextTold : (zs br ys ms : List ℕ) → Option Seen → Type 0
     NextTold zs br ys ms r =
         (vs : List Name) (x : Numbering) → VariablesKept text table vs → TablesKept text ss ar xs ns seen x
-        → NumberingTold (use_numbered vs (a_use text (get_or found k 0) (get_or found (most_nodes + k) 0)) x) text zs br ys ms r
+        → NumberingTold (use_numbered vs (a_use text (use_at found k).place (use_at found k).count) x) text zs br ys ms r
 
     module _ (vs : List Name) (x : Numbering) (kept : VariablesKept text table vs) (tables : TablesKept text ss₀ ar₀ xs₀ ns₀ seen₀ x) where
       next_use : uses_numbered vs (kept_uses text found (suc k)) x
-          ≡ use_numbered vs (a_use text (get_or found k 0) (get_or found (most_nodes + k) 0)) (so.comes vs x kept tables).numbering
+          ≡ use_numbered vs (a_use text (use_at found k).place (use_at found k).count) (so.comes vs x kept tables).numbering
       unfolding a_use kept_use
       next_use =
           let c = so.comes vs x kept tables in
           ap (λ us. uses_numbered vs us x) (kept_uses_more text found k) ∙ uses_and_one vs (kept_uses text found k) _ x c.numbering c.passes
 
-    pub one_more : (zs br ys ms : List ℕ) (next : Seen) → NumberingGoes text zs br ys ms seen.nodes 1 (NumberedIs next) → NextTold zs br ys ms (NumberedIs next)
+    pub one_more : (zs br ys ms : List ℕ) (next : Seen) → NumberingGoes text zs br ys ms seen.nodes 1 (Some next) → NextTold zs br ys ms (Some next)
         → SoFar zs br ys ms next (k + 1)
     unfolding NumberingGoes
     one_more zs br ys ms next goes told =
@@ -113,9 +106,9 @@ module _ (text table found ss₀ ar₀ xs₀ ns₀ : List ℕ) (seen₀ : Seen) 
         }
 
     -- one that is refused
-    pub over : (zs br ys ms : List ℕ) → NextTold zs br ys ms NumberedOver → (n : ℕ) → k < n → (us vs ws ks : List ℕ) (names : List Name) (x : Numbering)
+    pub over : (zs br ys ms : List ℕ) → NextTold zs br ys ms None → (n : ℕ) → k < n → (us vs ws ks : List ℕ) (names : List Name) (x : Numbering)
         → VariablesKept text table names → TablesKept text ss₀ ar₀ xs₀ ns₀ seen₀ x
-        → NumberingTold (uses_numbered names (kept_uses text found n) x) text us vs ws ks NumberedOver
+        → NumberingTold (uses_numbered names (kept_uses text found n) x) text us vs ws ks None
     unfolding NumberingTold
     over zs br ys ms told n h us vs ws ks names x kept tables =
         let d : n ≡ suc k + (n - suc k) = omega arith in
@@ -127,7 +120,7 @@ module _ (text table found ss₀ ar₀ xs₀ ns₀ : List ℕ) (seen₀ : Seen) 
 
     -- all of them
     pub all_told : (n : ℕ) → k ≡ n → (names : List Name) (x : Numbering) → VariablesKept text table names → TablesKept text ss₀ ar₀ xs₀ ns₀ seen₀ x
-        → NumberingTold (uses_numbered names (kept_uses text found n) x) text ss ar xs ns (NumberedIs seen)
+        → NumberingTold (uses_numbered names (kept_uses text found n) x) text ss ar xs ns (Some seen)
     unfolding NumberingTold
     all_told n e names x kept tables =
         let c = so.comes names x kept tables in

@@ -6,22 +6,25 @@ mod rules;
 ghost use Rattle.texts.specs.TextReading.{read_text};
 ghost use Rattle.text_reader.specs.Tables.{Room, TextTold};
 
-use pack_reader::PackRead;
-use records::{Answer, MOST_TEXT_BYTES, Refusal};
+use pack_reader::Counts;
+use records::{MOST_TEXT_BYTES, Refusal};
 use text_names::TABLE_ROOM;
 
 // Reads a text: its symbols' arities, where each side's nodes start, and the nodes. What is outside the grammar is refused first,
 // wherever it stands, by a loop; the readers of terms and lists, which call each other, then meet no other text.
-pub fn read_text(text: &[u8], arities: &mut [u8], starts: &mut [u16], nodes: &mut [u8]) -> PackRead
+pub fn read_text(
+    text: &[u8],
+    arities: &mut [u8],
+    starts: &mut [u16],
+    nodes: &mut [u8],
+) -> Result<Counts, Refusal>
     requires { Room arities.old starts.old nodes.old }
     ensures { TextTold (read_text text.now) result arities.new starts.new nodes.new }
 {
     if MOST_TEXT_BYTES < text.len() {
-        return PackRead::Refused(Refusal::BadText);
+        return Err(Refusal::BadText);
     }
     let mut table = [0u16; TABLE_ROOM];
-    match text_grammar::rules_place(text, &mut table) {
-        Answer::Refused(x) => PackRead::Refused(x),
-        Answer::Passed(at) => rules::read_rules(text, at, &table, arities, starts, nodes),
-    }
+    let at = text_grammar::rules_place(text, &mut table)?;
+    rules::read_rules(text, at, &table, arities, starts, nodes)
 }

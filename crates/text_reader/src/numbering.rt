@@ -1,16 +1,15 @@
 // The numbers of names: their places in the tables so far, or new ones.
-ghost use Rattle.std.specs.Prelude.{◌≡◌, cond, List, ◌+◌, ◌≤◌, ◌<◌, eqb};
+ghost use Rattle.std.specs.Prelude.{◌≡◌, List, ◌<◌, length};
 ghost use Rattle.texts.specs.Tokens.{Name};
 ghost use Rattle.texts.specs.Numbers.{place};
 ghost use Rattle.texts.specs.Working.{Numbering, use_numbered, uses_numbered};
 ghost use Rattle.text_tokens.specs.Told.{name_at};
 ghost use Rattle.text_names.specs.Table.{hashes, VariablesKept};
 ghost use Rattle.text_sides.specs.Sides.{kept_uses};
-ghost use Rattle.text_reader.specs.Tables.{name_entry, kept_names, a_use, FindAsked, VariableAsked, VariableTold, SymbolAsked, SymbolTold, UseAsked, UsesAsked, TablesKept, NumberingGoes, NumberingTold};
+ghost use Rattle.text_reader.specs.Tables.{name_entry, kept_names, a_use, FindAsked, Sought, VariableAsked, VariableTold, SymbolAsked, SymbolTold, UseAsked, UsesAsked, TablesKept, NumberingGoes, NumberingTold};
 
-use pack_reader::MOST_NODES;
-use records::{Answer, Refusal};
 use terms::{FIRST_VARIABLE, MOST_SYMBOLS, MOST_VARIABLES};
+use text_sides::Use;
 
 // A place in a text lies below this.
 const PLACES: usize = 65536;
@@ -26,13 +25,6 @@ pub struct Seen {
     pub nodes: usize,
 }
 
-// The counts afterwards, or that one is over its limit, or a symbol has two arities.
-#[derive(Clone, Copy)]
-pub enum Numbered {
-    Read(Seen),
-    Over,
-}
-
 // An entry of a table of names: the place where the name begins, and its hash, so that most names are told apart by one number.
 fn entry(s: usize, h: usize) -> u64
     requires { (s < 65536) × (h < hashes) }
@@ -41,41 +33,42 @@ fn entry(s: usize, h: usize) -> u64
     (h * PLACES + s) as u64
 }
 
-// The number of the name that begins at place s and has hash h among the first n; n if it is not there.
-fn find(text: &[u8], names: &[u64], n: usize, s: usize, h: usize) -> usize
+// The number of the name that begins at place s and has hash h among the first n, if it is there.
+fn find(text: &[u8], names: &[u64], n: usize, s: usize, h: usize) -> Option<usize>
     requires { FindAsked text.now names.now n s h }
-    ensures { (result ≡ place (name_at text.now s) (kept_names text.now names.now n)) × (result ≤ n) }
+    ensures { Sought (place (name_at text.now s) (kept_names text.now names.now n)) n result }
 {
-    let mut i = 0;
-    while i < n {
+    for i in 0..n {
         let x = names[i] as usize;
-        if x / PLACES == h {
-            if text_tokens::same_name(text, s, x % PLACES) {
-                return i;
-            }
+        if x / PLACES == h && text_tokens::same_name(text, s, x % PLACES) {
+            return Some(i);
         }
-        i = i + 1;
     }
-    n
+    None
 }
 
-// A variable's number, the next one if it is new.
-fn number_variable(text: &[u8], s: usize, h: usize, variables: &mut [u64], n: usize) -> Answer
+// A variable's number, the next one if it is new. None: there are too many.
+fn number_variable(
+    text: &[u8],
+    s: usize,
+    h: usize,
+    variables: &mut [u64],
+    n: usize,
+) -> Option<usize>
     requires { VariableAsked text.now s h variables.old n }
     ensures { VariableTold text.now s h variables.old variables.new n result }
 {
-    let i = find(text, variables, n, s, h);
-    if i < n {
-        return Answer::Passed(i);
+    if let Some(i) = find(text, variables, n, s, h) {
+        return Some(i);
     }
     if MOST_VARIABLES <= n {
-        return Answer::Refused(Refusal::TextLimits);
+        return None;
     }
     variables[n] = entry(s, h);
-    Answer::Passed(n)
+    Some(n)
 }
 
-// A symbol's number, the next one if it is new.
+// A symbol's number, the next one if it is new. None: there are too many, it has too many arguments, or another number of them before.
 fn number_symbol(
     text: &[u8],
     s: usize,
@@ -84,40 +77,28 @@ fn number_symbol(
     symbols: &mut [u64],
     arities: &mut [u8],
     n: usize,
-) -> Answer
+) -> Option<usize>
     requires { SymbolAsked text.now s h count symbols.old arities.old n }
     ensures { SymbolTold text.now s h count symbols.old symbols.new arities.old arities.new n result }
 {
-    let i = find(text, symbols, n, s, h);
-    if i < n {
-        if arities[i] as usize != count {
-            return Answer::Refused(Refusal::TextLimits);
+    if let Some(i) = find(text, symbols, n, s, h) {
+        if usize::from(arities[i]) != count {
+            return None;
         }
-        return Answer::Passed(i);
+        return Some(i);
     }
     if MOST_SYMBOLS <= n {
-        return Answer::Refused(Refusal::TextLimits);
+        return None;
     }
     if MOST_ARITY < count {
-        return Answer::Refused(Refusal::TextLimits);
+        return None;
     }
     symbols[n] = entry(s, h);
     arities[n] = count as u8;
-    Answer::Passed(n)
+    Some(n)
 }
 
-// How many there are once number i was given, of n before.
-fn counted(n: usize, i: usize) -> usize
-    requires { n ≤ 64 }
-    ensures { result ≡ cond (eqb i n) (n + 1) n }
-{
-    if i == n {
-        return n + 1;
-    }
-    n
-}
-
-// Numbers one name and keeps its node.
+// Numbers one name and keeps its node. None: a count is over its limit, or a symbol has two arities.
 fn number_use(
     text: &[u8],
     table: &[u16],
@@ -128,7 +109,7 @@ fn number_use(
     variables: &mut [u64],
     nodes: &mut [u8],
     seen: Seen,
-) -> Numbered
+) -> Option<Seen>
     requires { UseAsked text.now table.now s count symbols.old arities.old variables.old nodes.old seen }
     ensures goes { NumberingGoes text.now symbols.new arities.new variables.new nodes.new seen.nodes 1 result }
     ensures told { (vs : List Name) (x : Numbering) → VariablesKept text.now table.now vs → TablesKept text.now symbols.old arities.old variables.old nodes.old seen x → NumberingTold (use_numbered vs (a_use text.now s count) x) text.now symbols.new arities.new variables.new nodes.new result }
@@ -136,67 +117,51 @@ fn number_use(
     let k = seen.nodes;
     let h = text_names::hash(text, s);
     if text_names::declared(text, table, s, h) {
-        match number_variable(text, s, h, variables, seen.variables) {
-            Answer::Refused(_) => {
-                return Numbered::Over;
-            }
-            Answer::Passed(v) => {
-                nodes[k] = FIRST_VARIABLE + v as u8;
-                return Numbered::Read(Seen {
-                    symbols: seen.symbols,
-                    variables: counted(seen.variables, v),
-                    nodes: k + 1,
-                });
-            }
-        }
+        let v = number_variable(text, s, h, variables, seen.variables)?;
+        nodes[k] = FIRST_VARIABLE + v as u8;
+        return Some(Seen {
+            variables: seen.variables.max(v + 1),
+            nodes: k + 1,
+            ..seen
+        });
     }
-    match number_symbol(text, s, h, count, symbols, arities, seen.symbols) {
-        Answer::Refused(_) => Numbered::Over,
-        Answer::Passed(f) => {
-            nodes[k] = f as u8;
-            Numbered::Read(Seen {
-                symbols: counted(seen.symbols, f),
-                variables: seen.variables,
-                nodes: k + 1,
-            })
-        }
-    }
+    let f = number_symbol(text, s, h, count, symbols, arities, seen.symbols)?;
+    nodes[k] = f as u8;
+    Some(Seen {
+        symbols: seen.symbols.max(f + 1),
+        nodes: k + 1,
+        ..seen
+    })
 }
 
-// Numbers the first n names of a side.
+// Numbers names of a side.
 pub fn number_uses(
     text: &[u8],
     table: &[u16],
-    found: &[u16],
-    n: usize,
+    uses: &[Use],
     symbols: &mut [u64],
     arities: &mut [u8],
     variables: &mut [u64],
     nodes: &mut [u8],
     seen: Seen,
-) -> Numbered
-    requires { UsesAsked text.now table.now found.now n symbols.old arities.old variables.old nodes.old seen }
-    ensures goes { NumberingGoes text.now symbols.new arities.new variables.new nodes.new seen.nodes n result }
-    ensures told { (vs : List Name) (x : Numbering) → VariablesKept text.now table.now vs → TablesKept text.now symbols.old arities.old variables.old nodes.old seen x → NumberingTold (uses_numbered vs (kept_uses text.now found.now n) x) text.now symbols.new arities.new variables.new nodes.new result }
+) -> Option<Seen>
+    requires { UsesAsked text.now table.now uses.now symbols.old arities.old variables.old nodes.old seen }
+    ensures goes { NumberingGoes text.now symbols.new arities.new variables.new nodes.new seen.nodes (length uses.now) result }
+    ensures told { (vs : List Name) (x : Numbering) → VariablesKept text.now table.now vs → TablesKept text.now symbols.old arities.old variables.old nodes.old seen x → NumberingTold (uses_numbered vs (kept_uses text.now uses.now (length uses.now)) x) text.now symbols.new arities.new variables.new nodes.new result }
 {
     let mut now = seen;
-    let mut k = 0;
-    while k < n {
-        let Numbered::Read(next) = number_use(
+    for u in uses {
+        now = number_use(
             text,
             table,
-            found[k] as usize,
-            found[MOST_NODES + k] as usize,
+            usize::from(u.place),
+            usize::from(u.count),
             symbols,
             arities,
             variables,
             nodes,
             now,
-        ) else {
-            return Numbered::Over;
-        };
-        now = next;
-        k = k + 1;
+        )?;
     }
-    Numbered::Read(now)
+    Some(now)
 }

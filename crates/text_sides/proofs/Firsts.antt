@@ -7,7 +7,7 @@ use native.Mathlib.Omega.{arith}
 use denote.Enum.Declared.{tag_of}
 use Rattle.texts.specs.Tokens.{Token, name, opens, closes, comma, arrow, bad}
 use Rattle.texts.specs.Spelling.{bare, applied, nil, cons, TermPhrase, ListPhrase, parted, spelled}
-use Rattle.text_tokens.specs.Told.{tokens_at, Moves, Named, Told}
+use Rattle.text_tokens.specs.Told.{tokens_at, Told}
 use Rattle.text_tokens.specs.declared.Token.{Token as ToldToken}
 use Rattle.text_tokens.specs.declared.Token.TheVariants.{Name as ToldName, Open, Close, Comma, Arrow, Bad, End}
 use Rattle.text_tokens.specs.contracts.Token.{the_type}
@@ -82,24 +82,6 @@ module _ (text : List ℕ) (at : ℕ) (t : ToldToken) (told : Told text at t) wh
       not_such (Arrow e) h k = omega arith
       not_such Bad h k = omega arith
       not_such End h k = omega arith
-
--- it found this one
-module _ (text : List ℕ) (at : ℕ) (t : ToldToken) (told : Told text at t) where
-  pub name_found : (s e : ℕ) → t ≡ ToldName s e → Named text at s e
-  unfolding Told
-  name_found s e is = rw is at told
-
-  pub open_found : (e : ℕ) → t ≡ Open e → Moves text at opens e
-  unfolding Told
-  open_found e is = rw is at told
-
-  pub close_found : (e : ℕ) → t ≡ Close e → Moves text at closes e
-  unfolding Told
-  close_found e is = rw is at told
-
-  pub comma_found : (e : ℕ) → t ≡ Comma e → Moves text at comma e
-  unfolding Told
-  comma_found e is = rw is at told
 
 -- WHAT IS SPELLED
 pub after_first : {t u : Token} {ts us : List Token} → t ∷ ts ≡ u ∷ us → ts ≡ us

@@ -1,4 +1,5 @@
 -- How a term and a list are read: one law for each answer and each turn.
+use Rattle.std.specs.Prelude.{Option, Some, None}
 use mathlib.Core.Path.{◌≡◌, refl, sym, ap, ◌∙◌}
 use mathlib.Core.Bool.{true}
 use mathlib.Core.List.{List, [], ◌∷◌, ◌++◌, append_assoc, append-nil}
@@ -10,33 +11,12 @@ use Rattle.texts.specs.Tokens.{Token, name, opens, closes, comma}
 use Rattle.texts.specs.Spelling.{bare, applied, nil, cons, TermPhrase, ListPhrase, parted, spelled}
 use Rattle.texts.specs.Numbers.{Use, uses, arguments}
 use Rattle.text_tokens.specs.Told.{name_at, tokens_at, Moves, Named}
-use Rattle.text_tokens.proofs.Places.{tokens_at_end}
+use Rattle.text_sides.specs.declared.Use.{Use as KeptUse}
 use Rattle.text_sides.specs.declared.SideRead.{SideRead}
-use Rattle.text_sides.specs.declared.SideRead.TheVariants.{Read as SideIs, Over as SideOver}
 use Rattle.text_sides.specs.declared.ListRead.{ListRead}
-use Rattle.text_sides.specs.declared.ListRead.TheVariants.{Read as ListIs, Over as ListOver}
-use Rattle.text_sides.specs.Sides.{uses_room, kept_uses, no_list, MovedOn, PlacesKept, Goes, ListGoes, UsesAdded, SideTold, ListTold}
-use Rattle.text_sides.proofs.Kept.{kept_length, name_written, name_kept, with_count, with_count_at, count_kept}
+use Rattle.text_sides.specs.Sides.{kept_uses, no_list, UsesAdded, SideTold, ListTold}
+use Rattle.text_sides.proofs.Kept.{kept_length, name_kept, set_at, count_kept}
 use Rattle.text_sides.proofs.Firsts.{kind, after_first, spelled_cons, term_first, list_not_first, none_follows}
-
--- WHAT AN ANSWER SAYS
-
-module _ (text : List ℕ) (at have : ℕ) (z : List ℕ) where
-  pub term_moved : (r : SideRead) (e n : ℕ) → r ≡ SideIs e n → Goes text at have r z → MovedOn text at have e n × PlacesKept text z n × (have < n)
-  unfolding Goes
-  term_moved r e n is h = rw is at h
-
-  pub term_stopped : (r : SideRead) → r ≡ SideOver → Goes text at have r z → length z ≡ uses_room
-  unfolding Goes
-  term_stopped r is h = rw is at h
-
-  pub list_moved : (r : ListRead) (e n c : ℕ) → r ≡ ListIs e n c → ListGoes text at have r z → MovedOn text at have e n × PlacesKept text z n × (c ≤ most_nodes)
-  unfolding ListGoes
-  list_moved r e n c is h = rw is at h
-
-  pub list_stopped : (r : ListRead) → r ≡ ListOver → ListGoes text at have r z → length z ≡ uses_room
-  unfolding ListGoes
-  list_stopped r is h = rw is at h
 
 -- A TERM
 
@@ -45,26 +25,26 @@ unfolding uses
 uses_some (bare n) = omega arith
 uses_some (applied n ps) = omega arith
 
-module _ (text : List ℕ) (have : ℕ) (o : List ℕ) where
+module _ (text : List ℕ) (have : ℕ) (o : List KeptUse) where
   -- no room is left for its name
-  pub term_full : (z : List ℕ) → most_nodes ≤ have → (p : TermPhrase) (rest : List Token) → SideTold text have (uses p) rest SideOver o z
+  pub term_full : (z : List KeptUse) → most_nodes ≤ have → (p : TermPhrase) (rest : List Token) → SideTold text have (uses p) rest None o z
   unfolding SideTold
   term_full z h p rest = omega (arith, uses_some p)
 
   -- no name begins it
-  pub term_none : (at : ℕ) (r : SideRead) (z : List ℕ) → (kind (tokens_at text at) ≡ 0 → ⊥) → (p : TermPhrase) (rest : List Token) → tokens_at text at ≡ spelled p ++ rest
+  pub term_none : (at : ℕ) (r : Option SideRead) (z : List KeptUse) → (kind (tokens_at text at) ≡ 0 → ⊥) → (p : TermPhrase) (rest : List Token) → tokens_at text at ≡ spelled p ++ rest
       → SideTold text have (uses p) rest r o z
   term_none at r z h p rest is = absurd (h (ap kind is ∙ term_first p rest))
 
   module _ (at s e : ℕ) (d : Named text at s e) where
     -- no list follows its name
-    pub term_bare : have < most_nodes → length o ≡ uses_room → (kind (tokens_at text e) ≡ 1 → ⊥) → (p : TermPhrase) (rest : List Token)
-        → tokens_at text at ≡ spelled p ++ rest → SideTold text have (uses p) rest (SideIs e (have + 1)) o (name_written o have s)
+    pub term_bare : have < most_nodes → length o ≡ most_nodes → (kind (tokens_at text e) ≡ 1 → ⊥) → (p : TermPhrase) (rest : List Token)
+        → tokens_at text at ≡ spelled p ++ rest → SideTold text have (uses p) rest (Some (record { next = e; names = have + 1 })) o (set o have (record { place = s; count = 0 }))
     unfolding SideTold spelled uses kind
     term_bare few long h (bare n) rest is =
         let both : name (name_at text s) ∷ tokens_at text e ≡ name n ∷ rest = sym d.moves.is ∙ is in
         let same : name_at text s ≡ n = cc in
-        (after_first both, record { many = omega arith; are = rw (← same) (name_kept o have s few long text) })
+        (after_first both, record { many = omega arith; are = rw (← same) (name_kept text o have _ few long) })
     term_bare few long h (applied n ps) rest is = absurd (h (ap kind (after_first (sym d.moves.is ∙ is))))
 
     -- a list follows it
@@ -87,37 +67,32 @@ module _ (text : List ℕ) (have : ℕ) (o : List ℕ) where
           all = rw same;
         }
 
-    module _ (b : ℕ) (p : TermPhrase) (rest : List Token) (q : Opened b p rest) (z : List ℕ) where
-      pub term_over : (r : ListRead) → r ≡ ListOver → ListTold text (have + 1) q.list rest r (name_written o have s) z → SideTold text have (uses p) rest SideOver o z
+    module _ (b : ℕ) (p : TermPhrase) (rest : List Token) (q : Opened b p rest) (z : List KeptUse) where
+      pub term_over : ListTold text (have + 1) q.list rest None (set o have (record { place = s; count = 0 })) z → SideTold text have (uses p) rest None o z
       unfolding SideTold ListTold
-      term_over r is told =
-          let h : ListTold text (have + 1) q.list rest ListOver (name_written o have s) z = rw is at told in
-          omega (arith, h, ap length q.all)
+      term_over told = omega (arith, told, ap length q.all)
 
-      pub term_applied : have < most_nodes → length o ≡ uses_room → length z ≡ uses_room → (next n c : ℕ) → have < n → n ≤ most_nodes
-          → (r : ListRead) → r ≡ ListIs next n c → ListTold text (have + 1) q.list rest r (name_written o have s) z
-          → SideTold text have (uses p) rest (SideIs next n) o (set z (most_nodes + have) c)
+      pub term_applied : have < most_nodes → length o ≡ most_nodes → length z ≡ most_nodes → (r : ListRead) → have < r.names → r.names ≤ most_nodes
+          → ListTold text (have + 1) q.list rest (Some r) (set o have (record { place = s; count = 0 })) z
+          → SideTold text have (uses p) rest (Some (record { next = r.next; names = r.names })) o (set z have (record { place = s; count = r.arguments }))
       unfolding SideTold ListTold
-      term_applied few long still next n c more small r is told = (h.0, record { many = omega (arith, h.1.many, ap length q.all); are = kept })
+      term_applied few long still r more small told = (told.0, record { many = omega (arith, told.1.many, ap length q.all); are = kept })
         where
-          h : ListTold text (have + 1) q.list rest (ListIs next n c) (name_written o have s) z
-          h = rw is at told
-
-          before : kept_uses text z n ≡ kept_uses text o have ++ (record { name = name_at text s; count = 0 } ∷ uses q.list)
+          before : kept_uses text z r.names ≡ kept_uses text o have ++ (record { name = name_at text s; count = 0 } ∷ uses q.list)
           before =
-              h.1.are ∙ ap (λ us. us ++ uses q.list) (name_kept o have s few long text)
+              told.1.are ∙ ap (λ us. us ++ uses q.list) (name_kept text o have _ few long)
               ∙ append_assoc (kept_uses text o have) (record { name = name_at text s; count = 0 } ∷ []) (uses q.list)
 
-          kept : kept_uses text (set z (most_nodes + have) c) n ≡ kept_uses text o have ++ uses p
+          kept : kept_uses text (set z have (record { place = s; count = r.arguments })) r.names ≡ kept_uses text o have ++ uses p
           kept =
-              count_kept text z have c few still n more small ∙ ap (with_count have c) before
-              ∙ with_count_at have c (kept_uses text o have) _ (uses q.list) (sym (kept_length text o have))
-              ∙ rw (h.2, q.all)
+              count_kept text z have _ few still r.names more small ∙ ap (λ us. set us have (record { name = name_at text s; count = r.arguments })) before
+              ∙ set_at have (kept_uses text o have) _ (uses q.list) _ (sym (kept_length text o have))
+              ∙ rw (told.2, q.all)
 
 -- A LIST
 
 -- before an argument: those read so far, and what is left of the list
-pub record Left (text : List ℕ) (have : ℕ) (o : List ℕ) (ps : ListPhrase) (rest : List Token) (i n count : ℕ) (z : List ℕ) : Type 0 where
+pub record Left (text : List ℕ) (have : ℕ) (o : List KeptUse) (ps : ListPhrase) (rest : List Token) (i n count : ℕ) (z : List KeptUse) : Type 0 where
   pub first : TermPhrase
   pub others : ListPhrase
   pub before : List Use
@@ -127,7 +102,7 @@ pub record Left (text : List ℕ) (have : ℕ) (o : List ℕ) (ps : ListPhrase) 
   pub counted : arguments ps ≡ count + suc (arguments others)
 
 -- after one
-pub record Past (text : List ℕ) (have : ℕ) (o : List ℕ) (ps : ListPhrase) (rest : List Token) (next n count : ℕ) (z : List ℕ) : Type 0 where
+pub record Past (text : List ℕ) (have : ℕ) (o : List KeptUse) (ps : ListPhrase) (rest : List Token) (next n count : ℕ) (z : List KeptUse) : Type 0 where
   pub others : ListPhrase
   pub before : List Use
   pub tokens : tokens_at text next ≡ parted others ++ (spelled others ++ (closes ∷ rest))
@@ -135,13 +110,13 @@ pub record Past (text : List ℕ) (have : ℕ) (o : List ℕ) (ps : ListPhrase) 
   pub all : uses ps ≡ before ++ uses others
   pub counted : arguments ps ≡ count + arguments others
 
-none_added : (text : List ℕ) (have : ℕ) (o : List ℕ) → UsesAdded text have [] have o o
+none_added : (text : List ℕ) (have : ℕ) (o : List KeptUse) → UsesAdded text have [] have o o
 none_added text have o = record { many = omega arith; are = sym (append-nil (kept_uses text o have)) }
 
-module _ (text : List ℕ) (have : ℕ) (o : List ℕ) where
+module _ (text : List ℕ) (have : ℕ) (o : List KeptUse) where
   -- the list is closed at once
   pub list_empty : (at e : ℕ) → Moves text at closes e → (ps : ListPhrase) (rest : List Token) → tokens_at text at ≡ spelled ps ++ (closes ∷ rest)
-      → ListTold text have ps rest (ListIs e have 0) o o
+      → ListTold text have ps rest (Some (record { next = e; names = have; arguments = 0 })) o o
   unfolding ListTold spelled uses arguments kind
   list_empty at e m nil rest is = (after_first (sym m.is ∙ is), none_added text have o, refl)
   list_empty at e m (cons p ps) rest is =
@@ -165,33 +140,23 @@ module _ (text : List ℕ) (have : ℕ) (o : List ℕ) where
   }
 
   module _ (ps : ListPhrase) (rest : List Token) where
-    module _ (i n count : ℕ) (z : List ℕ) (l : Left text have o ps rest i n count z) where
-      -- the text does not end before it is closed
-      pub list_goes : length text ≤ i → i ≤ length text → ⊥
-      unfolding kind
-      list_goes h k =
-          let e : length text ≡ i = omega arith in
-          let none : kind (tokens_at text i) ≡ 6 = ap kind (rw e at (tokens_at_end text)) in
-          let some : kind (tokens_at text i) ≡ 0 = ap kind l.tokens ∙ term_first l.first _ in
-          omega arith
-
-      module _ (y : List ℕ) where
-        abbrev pub TermTells : SideRead → Type 0
+    module _ (i n count : ℕ) (z : List KeptUse) (l : Left text have o ps rest i n count z) where
+      module _ (y : List KeptUse) where
+        abbrev pub TermTells : Option SideRead → Type 0
         TermTells r = (p : TermPhrase) (ts : List Token) → tokens_at text i ≡ spelled p ++ ts → no_list ts ≡ true → SideTold text n (uses p) ts r z y
 
         -- an argument has one name too many
-        pub list_over : (r : SideRead) → r ≡ SideOver → TermTells r → ListTold text have ps rest ListOver o y
+        pub list_over : TermTells None → ListTold text have ps rest None o y
         unfolding SideTold ListTold
-        list_over r is told =
-            let h : most_nodes < n + length (uses l.first) = rw is at (told l.first _ l.tokens (none_follows l.others rest)) in
+        list_over told =
+            let h : most_nodes < n + length (uses l.first) = told l.first _ l.tokens (none_follows l.others rest) in
             omega (arith, h, l.added.many, ap length l.all, length-append l.before (uses l.first ++ uses l.others), length-append (uses l.first) (uses l.others))
 
         -- an argument is read
-        pub list_past : (r : SideRead) (next m : ℕ) → r ≡ SideIs next m → TermTells r → Past text have o ps rest next m (count + 1) y
+        pub list_past : (r : SideRead) → TermTells (Some r) → Past text have o ps rest r.next r.names (count + 1) y
         unfolding SideTold
-        list_past r next m is told =
-            let h : SideTold text n (uses l.first) (parted l.others ++ (spelled l.others ++ (closes ∷ rest))) (SideIs next m) z y =
-            rw is at (told l.first _ l.tokens (none_follows l.others rest)) in
+        list_past r told =
+            let h : SideTold text n (uses l.first) (parted l.others ++ (spelled l.others ++ (closes ∷ rest))) (Some r) z y = told l.first _ l.tokens (none_follows l.others rest) in
             record {
               others = l.others;
               before = l.before ++ uses l.first;
@@ -204,14 +169,14 @@ module _ (text : List ℕ) (have : ℕ) (o : List ℕ) where
               counted = omega (arith, l.counted);
             }
 
-    module _ (next n count : ℕ) (z : List ℕ) (q : Past text have o ps rest next n count z) where
+    module _ (next n count : ℕ) (z : List KeptUse) (q : Past text have o ps rest next n count z) where
       -- the list is closed
-      pub list_ends : (e : ℕ) → Moves text next closes e → ListTold text have ps rest (ListIs e n count) o z
+      pub list_ends : (e : ℕ) → Moves text next closes e → ListTold text have ps rest (Some (record { next = e; names = n; arguments = count })) o z
       unfolding ListTold spelled parted uses arguments kind
       list_ends e m = go q.others q.tokens q.all q.counted
         where
           go : (qs : ListPhrase) → tokens_at text next ≡ parted qs ++ (spelled qs ++ (closes ∷ rest)) → uses ps ≡ q.before ++ uses qs → arguments ps ≡ count + arguments qs
-              → ListTold text have ps rest (ListIs e n count) o z
+              → ListTold text have ps rest (Some (record { next = e; names = n; arguments = count })) o z
           go nil is all counted =
               let same : uses ps ≡ q.before = all ∙ append-nil q.before in
               (after_first (sym m.is ∙ is), rw same q.added, omega (arith, counted))

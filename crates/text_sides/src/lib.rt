@@ -11,76 +11,95 @@ ghost use Rattle.text_sides.specs.Sides.{no_list, SideAsked, Goes, ListGoes, Sid
 use pack_reader::MOST_NODES;
 use text_tokens::Token;
 
-// Where each name of a side begins, then the counts of their arguments.
-pub const USES_ROOM: usize = 2 * MOST_NODES;
-
-// The place after a term, and how many names there are; or that there is one too many.
+// A name of a side: the place where it begins, and how many arguments it has.
 #[derive(Clone, Copy)]
-pub enum SideRead {
-    Read(usize, usize),
-    Over,
+pub struct Use {
+    pub place: u16,
+    pub count: u16,
 }
 
-// The place after an argument list, how many names there are, and how many arguments it has.
+// What was read of a term: the place after it, and how many names there are.
 #[derive(Clone, Copy)]
-pub enum ListRead {
-    Read(usize, usize, usize),
-    Over,
+pub struct SideRead {
+    pub next: usize,
+    pub names: usize,
 }
 
-// Reads the term at place `at`, with `have` names of its side before it.
+// The same of an argument list, and how many arguments it has.
+#[derive(Clone, Copy)]
+pub struct ListRead {
+    pub next: usize,
+    pub names: usize,
+    pub arguments: usize,
+}
+
+// Reads the term at place `at`, with `have` names of its side before it. None: there is one name too many.
 #[cycle(list_at_term_at)]
-pub fn term_at(text: &[u8], at: usize, have: usize, found: &mut [u16]) -> SideRead
+pub fn term_at(text: &[u8], at: usize, have: usize, found: &mut [Use]) -> Option<SideRead>
     requires { SideAsked text.now at have found.old }
     ensures goes { Goes text.now at have result found.new }
     ensures told { (p : TermPhrase) (rest : List TextToken) → tokens_at text.now at ≡ spelled p ++ rest → no_list rest ≡ true → SideTold text.now have (uses p) rest result found.old found.new }
 {
     if MOST_NODES <= have {
-        return SideRead::Over;
+        return None;
     }
     let Token::Name(s, e) = text_tokens::next_token(text, at) else {
-        return SideRead::Over;
+        return None;
     };
-    found[have] = s as u16;
-    found[MOST_NODES + have] = 0;
+    let place = s as u16;
+    found[have] = Use { place, count: 0 };
     let Token::Open(b) = text_tokens::next_token(text, e) else {
-        return SideRead::Read(e, have + 1);
+        return Some(SideRead {
+            next: e,
+            names: have + 1,
+        });
     };
-    match list_at(text, b, have + 1, found) {
-        ListRead::Over => SideRead::Over,
-        ListRead::Read(next, n, count) => {
-            found[MOST_NODES + have] = count as u16;
-            SideRead::Read(next, n)
-        }
-    }
+    let list = list_at(text, b, have + 1, found)?;
+    found[have] = Use {
+        place,
+        count: list.arguments as u16,
+    };
+    Some(SideRead {
+        next: list.next,
+        names: list.names,
+    })
 }
 
 // Reads the argument list whose parenthesis was just read.
 #[cycle(list_at_term_at)]
-fn list_at(text: &[u8], at: usize, have: usize, found: &mut [u16]) -> ListRead
+fn list_at(text: &[u8], at: usize, have: usize, found: &mut [Use]) -> Option<ListRead>
     requires { SideAsked text.now at have found.old }
     ensures goes { ListGoes text.now at have result found.new }
     ensures told { (ps : ListPhrase) (rest : List TextToken) → tokens_at text.now at ≡ spelled ps ++ (closes ∷ rest) → ListTold text.now have ps rest result found.old found.new }
 {
     if let Token::Close(e) = text_tokens::next_token(text, at) {
-        return ListRead::Read(e, have, 0);
+        return Some(ListRead {
+            next: e,
+            names: have,
+            arguments: 0,
+        });
     }
     let mut i = at;
-    let mut n = have;
-    let mut count = 0;
-    while i < text.len() {
-        let SideRead::Read(next, more) = term_at(text, i, n, found) else {
-            return ListRead::Over;
-        };
-        n = more;
-        count = count + 1;
-        if let Token::Close(e) = text_tokens::next_token(text, next) {
-            return ListRead::Read(e, n, count);
+    let mut names = have;
+    let mut arguments = 0;
+    loop {
+        let term = term_at(text, i, names, found)?;
+        names = term.names;
+        arguments += 1;
+        match text_tokens::next_token(text, term.next) {
+            Token::Close(next) => {
+                return Some(ListRead {
+                    next,
+                    names,
+                    arguments,
+                });
+            }
+            Token::Comma(e) => {
+                i = e;
+            }
+            _ => {
+                return None;
+            }
         }
-        let Token::Comma(e) = text_tokens::next_token(text, next) else {
-            return ListRead::Over;
-        };
-        i = e;
     }
-    ListRead::Over
 }

@@ -1,6 +1,6 @@
 -- What the code tells of a text's tokens and names, by their places. The contracts between our own functions speak of it; no promise to
 -- a user does.
-use Rattle.std.specs.Prelude.{◌≡◌, true, false, cond, List, [], ◌∷◌, ℕ, ◌+◌, ◌≤◌, ◌<◌, length, drop, get_or}
+use Rattle.std.specs.Prelude.{◌≡◌, Bool, true, false, cond, Option, Some, None, List, [], ◌∷◌, ℕ, ◌+◌, ◌≤◌, ◌<◌, length, drop, get_or}
 use Rattle.texts.specs.Tokens.{Name, Token, name, opens, closes, comma, arrow, bad, in_name, blank, dash_byte, tokens, most_text_bytes}
 use Rattle.text_tokens.specs.declared.Token.{Token as ToldToken}
 use Rattle.text_tokens.specs.declared.Token.TheVariants.{Name as ToldName, Open, Close, Comma, Arrow, Bad, End}
@@ -49,13 +49,20 @@ pub record PlaceIn (text : List ℕ) (at : ℕ) : Type 0 where
   pub within : at ≤ length text
   pub text_short : length text ≤ most_text_bytes
 
--- the character of a name at a place, 0 where no name goes on
-unfoldable pub first_character : Name → ℕ
-first_character [] = 0
-first_character (c ∷ cs) = c
+-- the character of a name at a place, none where no name goes on
+unfoldable pub first_character : Name → Option ℕ
+first_character [] = None
+first_character (c ∷ cs) = Some c
 
-unfoldable pub character : (text : List ℕ) → ℕ → ℕ
+unfoldable pub character : (text : List ℕ) → ℕ → Option ℕ
 character text i = first_character (name_at text i)
+
+-- r is the place after the bytes that pass a test, which is given by what it may answer of a byte
+pub record Past (answers : ℕ → Bool → Type 0) (text : List ℕ) (at r : ℕ) : Type 0 where
+  pub forth : at ≤ r
+  pub within : r ≤ length text
+  pub passed : (k : ℕ) → at ≤ k → k < r → answers (get_or text k 0) true
+  pub ends : r < length text → answers (get_or text r 0) false
 
 -- r is the place after the blanks: the tokens from there on are the same, and no blank stands there
 pub record Skipped (text : List ℕ) (at r : ℕ) : Type 0 where

@@ -2,8 +2,8 @@
 // The tokens of a text, one after the other, and the names in it, by the places where they begin.
 ghost use Rattle.std.specs.Prelude.{◌≡◌, ◌+◌, ◌≤◌, length};
 ghost use Rattle.texts.specs.Tokens.{in_name, blank, most_text_bytes};
-ghost use Rattle.texts.specs.Spelling.{VAR, RULES, same};
-ghost use Rattle.text_tokens.specs.Told.{name_at, character, Told, PlaceIn, Skipped, ByteAt, NameBegins, DashAt};
+ghost use Rattle.texts.specs.Spelling.{same};
+ghost use Rattle.text_tokens.specs.Told.{name_at, character, Told, Past, PlaceIn, Skipped, ByteAt, NameBegins, DashAt};
 
 // Document 02's limit on a name's characters.
 const MOST_CHARACTERS: usize = 24;
@@ -20,41 +20,33 @@ pub enum Token {
     End,
 }
 
-// A letter, digit, underscore or apostrophe; most bytes are small letters.
+// A letter, digit, underscore or apostrophe. Most bytes are small letters, so they are asked for first.
+#[tactic(auto, unfolding(texts::specs::Tokens::in_name))]
 pub fn in_name(b: u8) -> bool
     ensures { result ≡ in_name b }
 {
-    if b'a' <= b {
-        return b <= b'z';
-    }
-    if b < b'0' {
-        return b == b'\'';
-    }
-    if b <= b'9' {
-        return true;
-    }
-    if b < b'A' {
-        return false;
-    }
-    if b <= b'Z' {
-        return true;
-    }
-    b == b'_'
+    b.is_ascii_lowercase() || matches!(b, b'0'..=b'9' | b'A'..=b'Z' | b'_' | b'\'')
 }
 
+#[tactic(auto, unfolding(texts::specs::Tokens::blank))]
 fn is_blank(b: u8) -> bool
     ensures { result ≡ blank b }
 {
-    if b == b' ' {
-        return true;
+    matches!(b, b' ' | b'\t' | b'\n' | b'\r')
+}
+
+// The place after the bytes from place `at` on that pass the test.
+fn past<F: Fn(u8) -> bool>(text: &[u8], at: usize, passes: F) -> usize
+    requires within { at ≤ length text.now }
+    requires callable { F.IsAlwaysCallable passes }
+    ensures { Past (F.post passes) text.now at result }
+{
+    for i in at..text.len() {
+        if !passes(text[i]) {
+            return i;
+        }
     }
-    if b == b'\t' {
-        return true;
-    }
-    if b == b'\n' {
-        return true;
-    }
-    b == b'\r'
+    text.len()
 }
 
 // The place after the blanks.
@@ -62,14 +54,7 @@ fn skip_blanks(text: &[u8], at: usize) -> usize
     requires { at ≤ length text.now }
     ensures { Skipped text.now at result }
 {
-    let mut i = at;
-    while i < text.len() {
-        if !is_blank(text[i]) {
-            return i;
-        }
-        i = i + 1;
-    }
-    i
+    past(text, at, is_blank)
 }
 
 // The place after the characters of a name.
@@ -77,14 +62,7 @@ fn name_end(text: &[u8], at: usize) -> usize
     requires { at ≤ length text.now }
     ensures { result ≡ at + length (name_at text.now at) }
 {
-    let mut i = at;
-    while i < text.len() {
-        if !in_name(text[i]) {
-            return i;
-        }
-        i = i + 1;
-    }
-    i
+    past(text, at, in_name)
 }
 
 // The arrow whose dash stands at place i.
@@ -92,13 +70,10 @@ fn arrow_at(text: &[u8], i: usize) -> Token
     requires { DashAt text.now i }
     ensures { Told text.now i result }
 {
-    if text.len() - i < 2 {
-        return Token::Bad;
+    match text.get(i + 1) {
+        Some(b'>') => Token::Arrow(i + 2),
+        _ => Token::Bad,
     }
-    if text[i + 1] == b'>' {
-        return Token::Arrow(i + 2);
-    }
-    Token::Bad
 }
 
 // The name that begins at place i.
@@ -118,23 +93,14 @@ fn token_at(text: &[u8], i: usize) -> Token
     requires { ByteAt text.now i }
     ensures { Told text.now i result }
 {
-    let b = text[i];
-    if in_name(b) {
-        return name_token(text, i);
+    match text[i] {
+        b if in_name(b) => name_token(text, i),
+        b'(' => Token::Open(i + 1),
+        b')' => Token::Close(i + 1),
+        b',' => Token::Comma(i + 1),
+        b'-' => arrow_at(text, i),
+        _ => Token::Bad,
     }
-    if b == b'(' {
-        return Token::Open(i + 1);
-    }
-    if b == b')' {
-        return Token::Close(i + 1);
-    }
-    if b == b',' {
-        return Token::Comma(i + 1);
-    }
-    if b == b'-' {
-        return arrow_at(text, i);
-    }
-    Token::Bad
 }
 
 // The next token from a place on.
@@ -149,17 +115,14 @@ pub fn next_token(text: &[u8], at: usize) -> Token
     token_at(text, i)
 }
 
-// The character of a name at a place; 0 where no name goes on.
-pub fn character(text: &[u8], i: usize) -> u8
+// The character of a name at a place; none where no name goes on.
+pub fn character(text: &[u8], i: usize) -> Option<u8>
     ensures { result ≡ character text.now i }
 {
-    if text.len() <= i {
-        return 0;
+    match text.get(i) {
+        Some(&b) if in_name(b) => Some(b),
+        _ => None,
     }
-    if in_name(text[i]) {
-        return text[i];
-    }
-    0
 }
 
 // Whether the names that begin at two places are the same.
@@ -168,56 +131,24 @@ pub fn same_name(text: &[u8], a: usize, b: usize) -> bool
     ensures { result ≡ same (name_at text.now a) (name_at text.now b) }
 {
     let mut i = 0;
-    let mut c = character(text, a);
-    while c != 0 {
-        if text.len() <= b + i {
+    while let Some(c) = character(text, a + i) {
+        if text.get(b + i) != Some(&c) {
             return false;
         }
-        if c != text[b + i] {
+        i += 1;
+    }
+    character(text, b + i).is_none()
+}
+
+// Whether the name that begins at a place is a word.
+pub fn is_word(text: &[u8], s: usize, word: &[u8]) -> bool
+    requires { s ≤ 65535 }
+    ensures { result ≡ same (name_at text.now s) word.now }
+{
+    for (i, w) in word.iter().enumerate() {
+        if character(text, s + i) != Some(*w) {
             return false;
         }
-        i = i + 1;
-        c = character(text, a + i);
     }
-    character(text, b + i) == 0
-}
-
-// Whether the name that begins at a place is VAR.
-pub fn is_var(text: &[u8], s: usize) -> bool
-    requires { s ≤ 65535 }
-    ensures { result ≡ same (name_at text.now s) VAR }
-{
-    if character(text, s) != b'V' {
-        return false;
-    }
-    if character(text, s + 1) != b'A' {
-        return false;
-    }
-    if character(text, s + 2) != b'R' {
-        return false;
-    }
-    character(text, s + 3) == 0
-}
-
-// Whether it is RULES.
-pub fn is_rules(text: &[u8], s: usize) -> bool
-    requires { s ≤ 65535 }
-    ensures { result ≡ same (name_at text.now s) RULES }
-{
-    if character(text, s) != b'R' {
-        return false;
-    }
-    if character(text, s + 1) != b'U' {
-        return false;
-    }
-    if character(text, s + 2) != b'L' {
-        return false;
-    }
-    if character(text, s + 3) != b'E' {
-        return false;
-    }
-    if character(text, s + 4) != b'S' {
-        return false;
-    }
-    character(text, s + 5) == 0
+    character(text, s + word.len()).is_none()
 }

@@ -2,6 +2,7 @@
 use mathlib.Core.Path.{sym, ◌∙◌}
 use Prim.Native.Nat.{◌+◌, ◌%◌, ◌<◌}
 use native.Mathlib.Omega.{arith}
+use borrow.Author.Tests.{eq-eqb}
 use lib.ListN.{get_or}
 use Rattle.text_tokens.specs.Told.{name_at}
 use Rattle.text_names.specs.Table.{first_hint, hint_room, KeptAt}
@@ -9,14 +10,9 @@ use Rattle.text_names.proofs.Hashes.{hint_is}
 use Rattle.text_names.proofs.Table.{kept_at_index, not_kept, no_hint, hint_listed, kept_listed, unkept_unlisted, unkept_left_out}
 use Rattle.text_names.proofs.declared.Goals as goal
 
-pub overflow_cast-hint : goal.overflow_cast-hint
-overflow_cast-hint c =
-    let small : let g = c.args in get_or g.table.now (first_hint + g.h % hint_room) 0 < 65536 = omega (arith, c.shared_slice_known-3-1.given (first_hint + c.args.h % hint_room)) in
-    omega (arith, small)
-
 pub returns-then-hint-eq0 : goal.returns-then-hint-eq0
 returns-then-hint-eq0 c =
-    λ vs v. sym (no_hint _ _ _ vs vs v.holds _ (hint_is _ c.args.h c.requires.hash_is) c.if-hint-eq0.true)
+    λ vs v. sym (no_hint _ _ _ vs vs v.holds _ (hint_is _ c.args.h c.requires.hash_is) (sym c.from-hint.ensures ∙ c.if-hint-eq0.true))
 
 pub same_name-requires : goal.same_name-requires
 same_name-requires c =
@@ -27,29 +23,26 @@ same_name-requires c =
 pub returns-then-same_name : goal.returns-then-same_name
 returns-then-same_name c =
     λ vs v. sym
-    (hint_listed _ _ _ vs vs v.holds _ (hint_is _ c.args.h c.requires.hash_is) c.if-hint-eq0.false
-    (sym c.same_name.ensures ∙ c.if-same_name.true))
+    (hint_listed _ _ _ vs vs v.holds _ (hint_is _ c.args.h c.requires.hash_is) (λ e. c.if-hint-eq0.false (c.from-hint.ensures ∙ e))
+    (rw c.from-hint.ensures at (sym c.same_name.ensures ∙ c.if-same_name.true)))
 
 pub returns-then-is_kept_at : goal.returns-then-is_kept_at
 returns-then-is_kept_at c =
     λ vs v. sym (kept_listed _ _ _ vs vs v.holds (kept_at_index _ _ _ _ (sym c.is_kept_at.ensures ∙ c.if-is_kept_at.true)))
 
-pub overflow_cast-rest : goal.overflow_cast-rest
-overflow_cast-rest c = omega (arith, c.shared_slice_known-4-1.given 2)
-
-pub returns-then-rest-eq0 : goal.returns-then-rest-eq0
-returns-then-rest-eq0 c =
+pub returns-else-rest-ne0 : goal.returns-else-rest-ne0
+returns-else-rest-ne0 c =
     let unkept : let g = c.args in KeptAt g.text.now g.table.now (name_at g.text.now g.s) → ⊥ = let q = c.requires in
     not_kept _ _ _ _ q.kept.holds.names.rising c.search-k.ensures (sym c.is_kept_at.ensures ∙ c.if-is_kept_at.false) in
-    λ vs v. sym (unkept_unlisted _ _ _ vs vs v.holds unkept c.if-rest-eq0.true)
+    λ vs v. rw (eq-eqb _ 0 c.if-rest-ne0.false) (sym (unkept_unlisted _ _ _ vs vs v.holds unkept (sym c.from-rest.ensures ∙ c.if-rest-ne0.false)))
 
 pub is_listed-requires : goal.is_listed-requires
 is_listed-requires c =
     let q = c.requires in
-    record { text_short = q.kept.text_short; within = (q.kept.holds.rest c.if-rest-eq0.false).within; name_within = q.within }
+    record { text_short = q.kept.text_short; within = omega (arith, (q.kept.holds.rest (λ e. c.if-rest-ne0.true (c.from-rest.ensures ∙ e))).within, c.from-rest.ensures); name_within = q.within }
 
-pub returns : goal.returns
-returns c =
+pub returns-then-rest-ne0 : goal.returns-then-rest-ne0
+returns-then-rest-ne0 c =
     let unkept : let g = c.args in KeptAt g.text.now g.table.now (name_at g.text.now g.s) → ⊥ = let q = c.requires in
     not_kept _ _ _ _ q.kept.holds.names.rising c.search-k.ensures (sym c.is_kept_at.ensures ∙ c.if-is_kept_at.false) in
-    λ vs v. c.is_listed.ensures ∙ sym (unkept_left_out _ _ _ vs vs v.holds unkept c.if-rest-eq0.false)
+    λ vs v. (rw c.from-rest.ensures at c.is_listed.ensures) ∙ sym (unkept_left_out _ _ _ vs vs v.holds unkept (λ e. c.if-rest-ne0.true (c.from-rest.ensures ∙ e)))

@@ -7,9 +7,9 @@ use Rattle.texts.specs.TextReading.{listed}
 use Rattle.text_tokens.specs.Told.{name_at, tokens_at}
 use Rattle.text_names.proofs.is_listed.Given as goal
 
-abbrev pub invariant-loop-i : goal.invariant-loop-i
-invariant-loop-i l =
+abbrev pub invariant-loop-n : goal.invariant-loop-n
+invariant-loop-n l =
     (l.i ≤ length l.text) × (among (name_at l.text l.s) (listed (tokens_at l.text l.at)) ≡ among (name_at l.text l.s) (listed (tokens_at l.text l.i)))
 
-abbrev pub decreases-loop-i : goal.decreases-loop-i
-decreases-loop-i l = length l.text - l.i
+abbrev pub decreases-loop-n : goal.decreases-loop-n
+decreases-loop-n l = length l.text - l.i

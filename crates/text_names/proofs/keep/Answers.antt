@@ -23,26 +23,23 @@ returns-then-is_kept_at c =
     let q = c.requires in
     keeps_same _ _ _ _ _ c.hash.ensures.0 q.from q.later (λ e. kept_at_index _ _ _ _ (sym c.is_kept_at.ensures ∙ c.if-is_kept_at.true))
 
-pub overflow_cast-table-2 : goal.overflow_cast-table-2
-overflow_cast-table-2 c = omega (arith, c.slice_known-2-1.given 1)
-
-pub returns-then-table-lt-MOST_KEPT : goal.returns-then-table-lt-MOST_KEPT
-returns-then-table-lt-MOST_KEPT c =
+pub returns-then-from-lt-MOST_KEPT : goal.returns-then-from-lt-MOST_KEPT
+returns-then-from-lt-MOST_KEPT c =
     let q = c.requires in
-    keeps_put _ _ _ _ _ c.hash.ensures.0 q.from q.later _ _ c.if-table-lt-MOST_KEPT.true c.search-k.ensures
+    keeps_put _ _ _ _ _ c.hash.ensures.0 q.from q.later _ _ (rw c.from.ensures at c.if-from-lt-MOST_KEPT.true) c.search-k.ensures
     (sym c.is_kept_at.ensures ∙ c.if-is_kept_at.false) c.put.ensures
 
-pub returns-then-table-ne0 : goal.returns-then-table-ne0
-returns-then-table-ne0 c =
+pub returns-else-table-eq0 : goal.returns-else-table-eq0
+returns-else-table-eq0 c =
     let q = c.requires in
-    keeps_same _ _ _ _ _ c.hash.ensures.0 q.from q.later (λ e. absurd (c.if-table-ne0.true e))
+    keeps_same _ _ _ _ _ c.hash.ensures.0 q.from q.later (λ e. absurd (c.if-table-eq0.false e))
 
 -- entry 2 is in the table
-pub bounds-table-2-2 : goal.bounds-table-2-2
-bounds-table-2-2 c =
+pub bounds-table-2-then-table-eq0 : goal.bounds-table-2-then-table-eq0
+bounds-table-2-then-table-eq0 c =
     omega (arith, length-set c.args.table.now (first_hint + c.hash.result % hint_room) c.args.s, c.requires.holds.names.rising.long)
 
-pub returns : goal.returns
-returns c =
+pub returns-then-table-eq0 : goal.returns-then-table-eq0
+returns-then-table-eq0 c =
     let q = c.requires in
-    keeps_left_out _ _ _ _ _ c.hash.ensures.0 q.from q.later (omega (arith, q.from, q.within)) c.if-table-ne0.false
+    keeps_left_out _ _ _ _ _ c.hash.ensures.0 q.from q.later (omega (arith, q.from, q.within)) c.if-table-eq0.true

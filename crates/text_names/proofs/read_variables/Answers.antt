@@ -2,21 +2,21 @@
 use mathlib.Core.Path.{refl, ◌∙◌}
 use native.Mathlib.Omega.{arith}
 use Rattle.text_tokens.specs.Told.{Named, Told}
-use Rattle.text_names.proofs.Listing.{after_end, after_other, read_none, read_more, read_closed, read_refused}
+use Rattle.text_names.proofs.Listing.{after_other, read_none, read_more, read_closed, read_refused}
 use Rattle.text_names.proofs.read_variables.Goals as goal
 
-pub loop-i-init : goal.loop-i-init
-loop-i-init c = (refl, read_none _ _ _ c.requires)
+pub loop-s-init : goal.loop-s-init
+loop-s-init c = (refl, read_none _ _ _ c.requires)
 
 pub next_token-requires : goal.next_token-requires
-next_token-requires c = record { within = c.loop-i.invariant.1.within; text_short = c.requires.text_short }
+next_token-requires c = record { within = c.loop-s.invariant.1.within; text_short = c.requires.text_short }
 
 pub keep-requires : goal.keep-requires
 unfolding Told
 keep-requires c =
-    let named : let l = c.loop-i in
-    Named c.args.text.now l.i c.in-Name.s c.in-Name.e = rw c.in-Name.is at c.next_token.ensures in
-    let l = c.loop-i in
+    let named : let l = c.loop-s in
+    Named c.args.text.now l.i c.in-Name.s c.in-Name.e = c.in-Name.ensures in
+    let l = c.loop-s in
     let q = c.requires in
     let m = named in
     record {
@@ -29,33 +29,28 @@ keep-requires c =
       holds = l.invariant.1.holds;
     }
 
-pub loop-i-smaller : goal.loop-i-smaller
+pub loop-s-smaller : goal.loop-s-smaller
 unfolding Told
-loop-i-smaller c =
-    let named : let l = c.loop-i in
-    Named c.args.text.now l.i c.in-Name.s c.in-Name.e = rw c.in-Name.is at c.next_token.ensures in
+loop-s-smaller c =
+    let named : let l = c.loop-s in
+    Named c.args.text.now l.i c.in-Name.s c.in-Name.e = c.in-Name.ensures in
     let m = named.moves in omega (arith, m.forth, m.within)
 
-pub loop-i-preserved : goal.loop-i-preserved
+pub loop-s-preserved : goal.loop-s-preserved
 unfolding Told
-loop-i-preserved c =
-    let named : let l = c.loop-i in
-    Named c.args.text.now l.i c.in-Name.s c.in-Name.e = rw c.in-Name.is at c.next_token.ensures in
-    let l = c.loop-i in
+loop-s-preserved c =
+    let named : let l = c.loop-s in
+    Named c.args.text.now l.i c.in-Name.s c.in-Name.e = c.in-Name.ensures in
+    let l = c.loop-s in
     (c.keep.auto.table ∙ l.invariant.0, read_more _ _ l.table l.i l.invariant.1 _ _ named _ c.keep.ensures)
 
 pub returns-in-Close : goal.returns-in-Close
 unfolding Told
 returns-in-Close c =
-    let l = c.loop-i in
-    read_closed c.args.text.now _ _ l.i l.invariant.1 c.requires.text_short _ (rw c.in-Close.is at c.next_token.ensures)
+    let l = c.loop-s in
+    read_closed c.args.text.now _ _ l.i l.invariant.1 c.requires.text_short _ (c.in-Close.ensures)
 
 pub returns-in_default : goal.returns-in_default
 returns-in_default c =
-    let l = c.loop-i in
+    let l = c.loop-s in
     read_refused _ _ _ l.i l.invariant.1 (after_other _ l.i _ c.next_token.ensures c.in_default.not-Name c.in_default.not-Close)
-
-pub returns : goal.returns
-returns c =
-    let l = c.loop-i in
-    read_refused _ _ _ l.i l.invariant.1 (after_end _ l.i c.loop-i-test.false l.invariant.1.within)

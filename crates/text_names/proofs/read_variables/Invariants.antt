@@ -5,8 +5,8 @@ use lib.ListN.{length}
 use Rattle.text_names.proofs.Listing.{ReadBefore}
 use Rattle.text_names.proofs.read_variables.Given as goal
 
-abbrev pub invariant-loop-i : goal.invariant-loop-i
-invariant-loop-i l = (length l.table ≡ length l.initial.table) × ReadBefore l.text l.at l.table l.i
+abbrev pub invariant-loop-s : goal.invariant-loop-s
+invariant-loop-s l = (length l.table ≡ length l.initial.table) × ReadBefore l.text l.at l.table l.i
 
-abbrev pub decreases-loop-i : goal.decreases-loop-i
-decreases-loop-i l = length l.text - l.i
+abbrev pub decreases-loop-s : goal.decreases-loop-s
+decreases-loop-s l = length l.text - l.i

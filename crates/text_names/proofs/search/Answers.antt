@@ -7,12 +7,6 @@ use Rattle.text_names.specs.Table.{most_kept, first_kept, count, kept}
 use Rattle.text_names.proofs.Table.{less_up_to, not_from}
 use Rattle.text_names.proofs.search.Goals as goal
 
-pub bounds-table-1 : goal.bounds-table-1
-bounds-table-1 c = omega (arith, c.requires.rising.long)
-
-pub overflow_cast-hi : goal.overflow_cast-hi
-overflow_cast-hi c = omega (arith, c.requires.rising.few)
-
 pub loop-lo-init : goal.loop-lo-init
 loop-lo-init c = (omega arith, omega arith, λ i h. absurd (omega arith), λ i past h. absurd (omega arith))
 
@@ -38,12 +32,6 @@ bounds-table-m c =
     let within : middle < count c.args.table.now = omega (arith, c.loop-lo-test.true, c.loop-lo.invariant.1) in
     omega (arith, within, few, c.requires.rising.few, c.requires.rising.long)
 
-pub overflow_cast-table : goal.overflow_cast-table
-overflow_cast-table c =
-    let middle : ℕ = (c.loop-lo.lo + c.loop-lo.hi) / 2 in
-    let small : get_or c.args.table.now (first_kept + middle) 0 < 65536 = omega (arith, c.shared_slice_known-in-loop-lo-1.given (first_kept + middle)) in
-    omega (arith, small)
-
 pub less_name-requires : goal.less_name-requires
 less_name-requires c =
     let middle : ℕ = (c.loop-lo.lo + c.loop-lo.hi) / 2 in
@@ -65,10 +53,11 @@ loop-lo-preserved-then-less_name c =
     let middle : ℕ = (c.loop-lo.lo + c.loop-lo.hi) / 2 in
     let within : middle < count c.args.table.now = omega (arith, c.loop-lo-test.true, c.loop-lo.invariant.1) in
     let l = c.loop-lo in
+    let is = c.from.ensures in
     let q = c.requires in (
       omega (arith, c.loop-lo-test.true),
       l.invariant.1,
-      less_up_to _ _ _ q.rising middle within _ (omega arith) (sym c.less_name.ensures ∙ c.if-less_name.true),
+      less_up_to _ _ _ q.rising middle within _ (omega arith) (rw is at (sym c.less_name.ensures ∙ c.if-less_name.true)),
       l.invariant.3,
     )
 
@@ -81,11 +70,12 @@ loop-lo-preserved c =
     let middle : ℕ = (c.loop-lo.lo + c.loop-lo.hi) / 2 in
     let within : middle < count c.args.table.now = omega (arith, c.loop-lo-test.true, c.loop-lo.invariant.1) in
     let l = c.loop-lo in
+    let is = c.from.ensures in
     let q = c.requires in (
       omega (arith, c.loop-lo-test.true),
       omega (arith, within),
       l.invariant.2,
-      not_from _ _ _ q.rising middle within (sym c.less_name.ensures ∙ c.if-less_name.false),
+      not_from _ _ _ q.rising middle within (rw is at (sym c.less_name.ensures ∙ c.if-less_name.false)),
     )
 
 pub returns : goal.returns

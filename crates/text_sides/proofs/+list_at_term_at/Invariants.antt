@@ -18,17 +18,17 @@ decreases-list_at l = 2 * (length l.text.now - l.at) + 1
 abbrev pub decreases-term_at : goal.decreases-term_at
 decreases-term_at l = 2 * (length l.text.now - l.at)
 
-abbrev pub invariant-list_at-loop-i : goal.invariant-list_at-loop-i
-invariant-list_at-loop-i l = record {
+abbrev pub invariant-list_at-loop-term : goal.invariant-list_at-loop-term
+invariant-list_at-loop-term l = record {
   forth : l.at ≤ l.i;
   within : l.i ≤ length l.text;
-  counted : l.have + l.count ≤ l.n;
-  few : l.n ≤ most_nodes;
-  kept : PlacesKept l.text l.found l.n;
+  counted : l.have + l.arguments ≤ l.names;
+  few : l.names ≤ most_nodes;
+  kept : PlacesKept l.text l.found l.names;
   left :
       (ps : ListPhrase) (rest : List Token) → tokens_at l.text l.at ≡ spelled ps ++ (closes ∷ rest) →
-      Left l.text l.have l.initial.found ps rest l.i l.n l.count l.found;
+      Left l.text l.have l.initial.found ps rest l.i l.names l.arguments l.found;
 }
 
-abbrev pub decreases-list_at-loop-i : goal.decreases-list_at-loop-i
-decreases-list_at-loop-i l = length l.text - l.i
+abbrev pub decreases-list_at-loop-term : goal.decreases-list_at-loop-term
+decreases-list_at-loop-term l = length l.text - l.i

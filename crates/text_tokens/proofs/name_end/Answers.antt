@@ -1,28 +1,14 @@
--- `text_tokens::name_end` meets its contract. The loop's invariant: what is left of the name from i on ends where the name ends.
-use mathlib.Core.Path.{◌≡◌, refl, sym, ap, ◌∙◌}
-use native.Mathlib.Omega.{arith}
-use lib.ListN.{length}
-use Rattle.text_tokens.proofs.Places.{name_at_end, name_more, name_no_more}
+-- `text_tokens::name_end` meets its contract: what is left of the name from each place on ends where the name ends.
+use Rattle.std.proofs.Common.{◌≡◌, ◌+◌, ℕ, length, refl, sym, ap, arith}
+use Rattle.text_tokens.specs.Told.{name_at}
+use Rattle.text_tokens.proofs.Places.{name_more}
+use Rattle.text_tokens.proofs.Names.{kept_along, name_over}
 use Rattle.text_tokens.proofs.name_end.Goals as goal
-
-pub loop-i-init : goal.loop-i-init
-loop-i-init c = (c.requires, refl)
-
-pub returns-then-not-in_name : goal.returns-then-not-in_name
-returns-then-not-in_name c =
-    let l = c.loop-i in
-    let text = c.args.text.now in
-    omega (arith, l.invariant.1, ap length (name_no_more text l.i c.loop-i-test.true (sym c.in_name.ensures ∙ c.if-not-in_name.true)))
-
-pub loop-i-preserved : goal.loop-i-preserved
-loop-i-preserved c =
-    let l = c.loop-i in
-    let text = c.args.text.now in
-    (omega arith, omega (arith, l.invariant.1, ap length (name_more text l.i c.loop-i-test.true (sym c.in_name.ensures ∙ c.if-not-in_name.false))))
 
 pub returns : goal.returns
 returns c =
-    let l = c.loop-i in
     let text = c.args.text.now in
-    let e : l.i ≡ length text = omega arith in
-    omega (arith, l.invariant.1, ap length (rw (← e) at (name_at_end text)))
+    let p = c.past.ensures in
+    let rest = kept_along (λ (k : ℕ). k + length (name_at text k) ≡ c.args.at + length (name_at text c.args.at)) c.args.at c.past.result p.forth refl
+    (λ k a b e. omega (arith, e, ap length (name_more text k (omega (arith, b, p.within)) (sym (p.passed k a b))))) in
+    omega (arith, rest, ap length (name_over text c.past.result p.within (λ h. sym (p.ends h))))

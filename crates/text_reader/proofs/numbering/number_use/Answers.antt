@@ -1,8 +1,9 @@
 -- `text_reader::numbering::number_use` meets its contract: a variable or a symbol is numbered, and its node is kept.
 use mathlib.Core.Path.{◌≡◌, refl, sym, ◌∙◌}
 use mathlib.Core.List.{List}
-use Prim.Native.Nat.{ℕ, ◌<◌}
+use Prim.Native.Nat.{ℕ, max, ◌+◌, ◌<◌}
 use native.Mathlib.Omega.{arith}
+use borrow.Author.Rules.{rules}
 use Rattle.packs.specs.PackReading.{most_symbols, variable_count}
 use Rattle.text_tokens.specs.Told.{name_at}
 use Rattle.text_names.specs.Table.{hash, hashes}
@@ -26,44 +27,47 @@ number_variable-requires c =
       few = t.variables_few;
     }
 
-pub returns-in-Refused : goal.returns-in-Refused
+pub returns-in_err-v : goal.returns-in_err-v
 unfolding NumberingGoes a_use
-returns-in-Refused c =
+returns-in_err-v c =
     let a = c.args in
     let t = c.requires.tables in
-    let told = rw c.in-Refused.is at c.number_variable.ensures in
-    record {
+    rw c.from_residual.ensures (record {
       goes = (t.symbols_long, t.arities_long, c.number_variable.auto.variables ∙ t.variables_long, t.nodes_long);
       told =
           λ vs x kept tables.
           rw (is_variable vs (a_use a.text.now a.s a.count) x (sym (c.declared.ensures vs kept) ∙ c.if-declared.true))
-          (variable_over a.text.now a.s _ (given c.requires c.hash-h.ensures) _ _ a.variables.now _ _ _ _ _ x (omega (arith, t.nodes_long, c.requires.room)) tables _ told _ _ _ _);
-    }
+          (variable_over a.text.now a.s _ (given c.requires c.hash-h.ensures) _ _ a.variables.now _ _ _ _ _ x (omega (arith, t.nodes_long, c.requires.room)) tables c.in_err-v.ensures _ _ _ _);
+    })
 
 pub overflow_cast-nodes : goal.overflow_cast-nodes
 overflow_cast-nodes c =
-    let told = rw c.in-Passed.is at c.number_variable.ensures in
-    let below : c.in-Passed.v < variable_count = variable_small _ _ _ (given c.requires c.hash-h.ensures) _ _ _ _ c.requires.tables.variables_few told in
+    let below : c.in_ok-v.v < variable_count = variable_small _ _ _ (given c.requires c.hash-h.ensures) _ _ _ _ c.requires.tables.variables_few c.in_ok-v.ensures in
     omega arith
 
 pub overflow_add-nodes : goal.overflow_add-nodes
 overflow_add-nodes c =
-    let told = rw c.in-Passed.is at c.number_variable.ensures in
-    let below : c.in-Passed.v < variable_count = variable_small _ _ _ (given c.requires c.hash-h.ensures) _ _ _ _ c.requires.tables.variables_few told in
+    let below : c.in_ok-v.v < variable_count = variable_small _ _ _ (given c.requires c.hash-h.ensures) _ _ _ _ c.requires.tables.variables_few c.in_ok-v.ensures in
     omega arith
 
-pub returns-in-Passed : goal.returns-in-Passed
+pub overflow_add-v : goal.overflow_add-v
+overflow_add-v c =
+    let below : c.in_ok-v.v < variable_count = variable_small _ _ _ (given c.requires c.hash-h.ensures) _ _ _ _ c.requires.tables.variables_few c.in_ok-v.ensures in
+    omega arith
+
+pub returns-then-declared : goal.returns-then-declared
 unfolding NumberingGoes a_use
-returns-in-Passed c =
+returns-then-declared c =
     let a = c.args in
     let t = c.requires.tables in
-    let told = rw c.in-Passed.is at c.number_variable.ensures in
+    let told = c.in_ok-v.ensures in
+    let many : c.max.result ≡ max a.seen.variables (c.in_ok-v.v + 1) = search rules in
     record {
-      goes = (variable_good a.text.now a.s _ (given c.requires c.hash-h.ensures) _ _ _ _ _ _ _ _ _ _ _ t told c.counted.ensures, refl);
+      goes = (variable_good a.text.now a.s _ (given c.requires c.hash-h.ensures) _ _ _ _ _ _ _ _ _ _ _ t told many, refl);
       told =
           λ vs x kept tables.
           rw (is_variable vs (a_use a.text.now a.s a.count) x (sym (c.declared.ensures vs kept) ∙ c.if-declared.true))
-          (variable_told a.text.now a.s _ (given c.requires c.hash-h.ensures) _ _ a.variables.now _ _ _ _ _ x (omega (arith, t.nodes_long, c.requires.room)) tables _ _ _ refl t.variables_long told c.counted.ensures);
+          (variable_told a.text.now a.s _ (given c.requires c.hash-h.ensures) _ _ a.variables.now _ _ _ _ _ x (omega (arith, t.nodes_long, c.requires.room)) tables _ _ _ refl t.variables_long told many);
     }
 
 -- A SYMBOL
@@ -79,36 +83,40 @@ number_symbol-requires c =
       count_few = q.count_few;
     }
 
-pub overflow_cast-nodes-in-Passed-number_symbol : goal.overflow_cast-nodes-in-Passed-number_symbol
-overflow_cast-nodes-in-Passed-number_symbol c =
-    let told = rw c.in-Passed-number_symbol.is at c.number_symbol.ensures in
-    let below : c.in-Passed-number_symbol.f < most_symbols = symbol_small _ _ _ (given c.requires c.hash-h.ensures) _ _ _ _ _ _ _ c.requires.tables.symbols_few told in
+pub overflow_cast-nodes-2 : goal.overflow_cast-nodes-2
+overflow_cast-nodes-2 c =
+    let below : c.in_ok-f.f < most_symbols = symbol_small _ _ _ (given c.requires c.hash-h.ensures) _ _ _ _ _ _ _ c.requires.tables.symbols_few c.in_ok-f.ensures in
     omega arith
 
-pub returns-in-Refused-number_symbol : goal.returns-in-Refused-number_symbol
+pub overflow_add-f : goal.overflow_add-f
+overflow_add-f c =
+    let below : c.in_ok-f.f < most_symbols = symbol_small _ _ _ (given c.requires c.hash-h.ensures) _ _ _ _ _ _ _ c.requires.tables.symbols_few c.in_ok-f.ensures in
+    omega arith
+
+pub returns-in_err-f : goal.returns-in_err-f
 unfolding NumberingGoes a_use
-returns-in-Refused-number_symbol c =
+returns-in_err-f c =
     let a = c.args in
     let t = c.requires.tables in
-    let told = rw c.in-Refused-number_symbol.is at c.number_symbol.ensures in
-    record {
+    rw c.from_residual-in_err-f.ensures (record {
       goes = (c.number_symbol.auto.symbols ∙ t.symbols_long, c.number_symbol.auto.arities ∙ t.arities_long, t.variables_long, t.nodes_long);
       told =
           λ vs x kept tables.
           rw (is_symbol vs (a_use a.text.now a.s a.count) x (sym (c.declared.ensures vs kept) ∙ c.if-declared.false))
-          (symbol_refused a.text.now a.s _ (given c.requires c.hash-h.ensures) a.count a.symbols.now _ a.arities.now _ _ _ _ _ _ x (omega (arith, t.nodes_long, c.requires.room)) tables _ told _ _ _ _);
-    }
+          (symbol_refused a.text.now a.s _ (given c.requires c.hash-h.ensures) a.count a.symbols.now _ a.arities.now _ _ _ _ _ _ x (omega (arith, t.nodes_long, c.requires.room)) tables c.in_err-f.ensures _ _ _ _);
+    })
 
-pub returns-in-Passed-number_symbol : goal.returns-in-Passed-number_symbol
+pub returns : goal.returns
 unfolding NumberingGoes a_use
-returns-in-Passed-number_symbol c =
+returns c =
     let a = c.args in
     let t = c.requires.tables in
-    let told = rw c.in-Passed-number_symbol.is at c.number_symbol.ensures in
+    let told = c.in_ok-f.ensures in
+    let many : c.max-2.result ≡ max a.seen.symbols (c.in_ok-f.f + 1) = search rules in
     record {
-      goes = (symbol_good a.text.now a.s _ (given c.requires c.hash-h.ensures) a.count _ _ _ _ _ _ _ _ _ _ _ _ t told c.counted-in-Passed-number_symbol.ensures, refl);
+      goes = (symbol_good a.text.now a.s _ (given c.requires c.hash-h.ensures) a.count _ _ _ _ _ _ _ _ _ _ _ _ t told many, refl);
       told =
           λ vs x kept tables.
           rw (is_symbol vs (a_use a.text.now a.s a.count) x (sym (c.declared.ensures vs kept) ∙ c.if-declared.false))
-          (symbol_told a.text.now a.s _ (given c.requires c.hash-h.ensures) a.count a.symbols.now _ a.arities.now _ _ _ _ _ _ x (omega (arith, t.nodes_long, c.requires.room)) tables _ _ _ refl t.symbols_long t.arities_long told c.counted-in-Passed-number_symbol.ensures);
+          (symbol_told a.text.now a.s _ (given c.requires c.hash-h.ensures) a.count a.symbols.now _ a.arities.now _ _ _ _ _ _ x (omega (arith, t.nodes_long, c.requires.room)) tables _ _ _ refl t.symbols_long t.arities_long told many);
     }

@@ -6,17 +6,16 @@ use Rattle.text_reader.specs.Tables.{with_name, variable_known, variable_new, va
 use Rattle.text_reader.proofs.Entries.{among_found, among_missed}
 use Rattle.text_reader.proofs.numbering.number_variable.Goals as goal
 
-pub returns-then-i-n : goal.returns-then-i-n
-returns-then-i-n c =
-    let f = c.find-i in
+pub returns-in-Some : goal.returns-in-Some
+returns-in-Some c =
+    let f = c.in-Some.ensures in
     let a = c.args in
-    variable_known f.result f.ensures.0 (among_found a.text.now a.variables.now (name_at a.text.now a.s) a.n f.result f.ensures.0 c.if-i-n.true) refl
+    variable_known c.in-Some.i f.0 (among_found a.text.now a.variables.now (name_at a.text.now a.s) a.n c.in-Some.i f.0 f.1) refl
 
 pub returns-then-n-ge-MOST_VARIABLES : goal.returns-then-n-ge-MOST_VARIABLES
 returns-then-n-ge-MOST_VARIABLES c =
-    let f = c.find-i in
     let a = c.args in
-    variables_full _ (among_missed a.text.now a.variables.now (name_at a.text.now a.s) a.n f.result f.ensures.0 c.if-i-n.false) (omega arith)
+    variables_full (among_missed a.text.now a.variables.now (name_at a.text.now a.s) a.n a.n c.in_default.ensures (omega arith)) (omega arith)
 
 pub entry-requires : goal.entry-requires
 entry-requires c =
@@ -26,7 +25,6 @@ entry-requires c =
 pub returns : goal.returns
 unfolding with_name
 returns c =
-    let f = c.find-i in
     let a = c.args in
-    variable_new (among_missed a.text.now a.variables.now (name_at a.text.now a.s) a.n f.result f.ensures.0 c.if-i-n.false) (omega arith)
+    variable_new (among_missed a.text.now a.variables.now (name_at a.text.now a.s) a.n a.n c.in_default.ensures (omega arith)) (omega arith)
     (rw c.entry.ensures)

@@ -1,43 +1,52 @@
 -- `text_reader::rules::read_side` meets its contract: its names are found, then numbered.
-use Rattle.text_sides.specs.declared.SideRead.TheVariants.{Read as Found}
+use mathlib.Core.Path.{sym}
+use native.Mathlib.Omega.{arith}
+use Rattle.std.proofs.lemmas.List.{length-take-le}
 use Rattle.text_sides.specs.Sides.{Goes}
 use Rattle.text_reader.proofs.OneRule.{many_goes, many_told, uses_asked, over_goes, side_goes, over_told, side_told}
 use Rattle.text_reader.proofs.rules.read_side.Goals as goal
 
-pub returns-in_default : goal.returns-in_default
-returns-in_default c =
-    let e = c.in_default.is in
-    record {
-      goes = many_goes _ _ _ _ _ _ _ _ _ _ c.requires e c.term_at.ensures.goes;
-      told =
-          λ vs x p rest kept tables is alone. many_told _ _ _ _ _ _ _ _ _ _ c.requires e vs x p rest (c.term_at.ensures.told p rest is alone);
-    }
+pub returns-in_err-side : goal.returns-in_err-side
+returns-in_err-side c =
+    let r = c.in_err-side.ensures in
+    rw c.from_residual.ensures (record {
+      goes = many_goes _ _ _ _ _ _ _ _ _ _ c.requires r.goes;
+      told = λ vs x p rest kept tables is alone. many_told _ _ _ _ _ _ _ _ _ _ c.requires vs x p rest (r.told p rest is alone);
+    })
+
+pub slice_bounds-uses-end : goal.slice_bounds-uses-end
+unfolding Goes
+slice_bounds-uses-end c =
+    let g = c.in_ok-side.ensures.goes in
+    omega (arith, g.0.few, g.1.long)
+
+pub slice_bounds-uses-end-2 : goal.slice_bounds-uses-end-2
+unfolding Goes
+slice_bounds-uses-end-2 c =
+    let g = c.in_ok-side.ensures.goes in
+    sym (length-take-le c.in_ok-side.side.names c.term_at.new.found (omega (arith, g.0.few, g.1.long)))
 
 pub number_uses-requires : goal.number_uses-requires
-number_uses-requires c =
-    let found : Goes c.args.text.now c.args.at 0 (Found c.in-Read.next c.in-Read.n) c.term_at.new.found = rw (← c.in-Read.is) c.term_at.ensures.goes in
-    uses_asked _ _ _ _ _ _ _ _ _ _ c.requires _ _ found
+number_uses-requires c = uses_asked _ _ _ _ _ _ _ _ _ _ c.requires c.in_ok-side.side c.in_ok-side.ensures.goes
 
-pub returns-in-Over : goal.returns-in-Over
-returns-in-Over c =
-    let found : Goes c.args.text.now c.args.at 0 (Found c.in-Read.next c.in-Read.n) c.term_at.new.found = rw (← c.in-Read.is) c.term_at.ensures.goes in
-    let e = c.in-Over.is in
-    record {
-      goes = over_goes _ _ _ _ _ _ _ _ _ _ c.requires _ _ found _ _ _ _ e c.number_uses.ensures.goes;
+pub returns-in_err-seen : goal.returns-in_err-seen
+returns-in_err-seen c =
+    let side = c.in_ok-side.ensures in
+    let r = c.in_err-seen.ensures in
+    rw c.from_residual-in_err-seen.ensures (record {
+      goes = over_goes _ _ _ _ _ _ _ _ _ _ c.requires c.in_ok-side.side side.goes _ _ _ _ r.goes;
       told =
           λ vs x p rest kept tables is alone.
-          over_told _ _ _ _ _ _ _ _ _ _ c.requires _ _ found _ _ _ _ vs x p rest (rw (← c.in-Read.is) (c.term_at.ensures.told p rest is alone)) e
-          (c.number_uses.ensures.told vs x kept tables);
-    }
+          over_told _ _ _ _ _ _ _ _ _ _ c.requires c.in_ok-side.side side.goes _ _ _ _ vs x p rest (side.told p rest is alone) (r.told vs x kept tables);
+    })
 
-pub returns-in-Read-number_uses : goal.returns-in-Read-number_uses
-returns-in-Read-number_uses c =
-    let found : Goes c.args.text.now c.args.at 0 (Found c.in-Read.next c.in-Read.n) c.term_at.new.found = rw (← c.in-Read.is) c.term_at.ensures.goes in
-    let e = c.in-Read-number_uses.is in
+pub returns : goal.returns
+returns c =
+    let side = c.in_ok-side.ensures in
+    let r = c.in_ok-seen.ensures in
     record {
-      goes = side_goes _ _ _ _ _ _ _ _ _ _ c.requires _ _ found _ _ _ _ _ e c.number_uses.ensures.goes;
+      goes = side_goes _ _ _ _ _ _ _ _ _ _ c.requires c.in_ok-side.side side.goes _ _ _ _ c.in_ok-seen.seen r.goes;
       told =
           λ vs x p rest kept tables is alone.
-          side_told _ _ _ _ _ _ _ _ _ _ c.requires _ _ found _ _ _ _ vs x p rest (rw (← c.in-Read.is) (c.term_at.ensures.told p rest is alone)) _ e
-          (c.number_uses.ensures.told vs x kept tables);
+          side_told _ _ _ _ _ _ _ _ _ _ c.requires c.in_ok-side.side side.goes _ _ _ _ vs x p rest (side.told p rest is alone) c.in_ok-seen.seen (r.told vs x kept tables);
     }
