@@ -70,12 +70,15 @@ module _ (ss ns ls : List ℕ) (s : ℕ) where
 
 -- THE DIFFERENCE of a key and a root's first key, which wraps
 
-module _ (r c own f low : ℕ) (wraps : (r + 65536 * c) % 4294967296 ≡ 65536 * f + low) (byte : c < 256) (small : low < 65536) where
-  below : own < 65536 → r < own → low < own
+abbrev difference : (key c : ℕ) → ℕ
+difference key c = (key + (4294967296 - 65536 * c)) % 4294967296
+
+module _ (key c own f low : ℕ) (is : key ≡ 65536 * f + low) (fits : key < 4294967296) (byte : c < 256) (small : low < 65536) where
+  below : own < 65536 → difference key c < own → low < own
   below o h = omega arith
 
-  not_below : r < 4294967296 → own ≤ r → f ≡ c → own ≤ low
-  not_below o h e = omega arith
+  not_below : own ≤ difference key c → f ≡ c → own ≤ low
+  not_below h e = omega arith
 
 -- FROM A PAIR of which arcs back are asked
 
@@ -145,41 +148,40 @@ module _ {rules right : ℕ} {ar ss ns ms ks rs : List ℕ} (a : BackAsked rules
     arc_back s h l k = back_to_some a.kept.system a.lows own a.pair s rules h l k
 
     -- the difference of the rule's key and the root's first one tells
-    module _ (s r : ℕ) (h : s < rules) (wraps : (r + 65536 * get_or ns right 0) % 4294967296 ≡ get_or ks s 0) where
+    module _ (s : ℕ) (h : s < rules) (fits : get_or ks s 0 < 4294967296) where
       abbrev keys : Keys rules ss ns a.lows ks
       keys = a.keyed.keys_are
 
-      pub is_lower : own < 65536 → r < own → ltb (get_or a.lows s 0) own ≡ true
-      is_lower o l = lt-ltb _ _ (below r (get_or ns right 0) own _ _ (wraps ∙ keys.key s h) (omega (arith, root_small)) (keys.small s h) o l)
+      pub is_lower : own < 65536 → difference (get_or ks s 0) (get_or ns right 0) < own → ltb (get_or a.lows s 0) own ≡ true
+      is_lower o l = lt-ltb _ _ (below _ (get_or ns right 0) own _ _ (keys.key s h) fits (omega (arith, root_small)) (keys.small s h) o l)
 
-      pub no_lower : r < 4294967296 → own ≤ r → back_there s ≡ false
-      no_lower o l = not_back s h (not_below r (get_or ns right 0) own _ _ (wraps ∙ keys.key s h) (omega (arith, root_small)) (keys.small s h) o l)
+      pub no_lower : own ≤ difference (get_or ks s 0) (get_or ns right 0) → back_there s ≡ false
+      no_lower l = not_back s h (not_below _ (get_or ns right 0) own _ _ (keys.key s h) fits (omega (arith, root_small)) (keys.small s h) l)
 
-    -- A SEARCH from rule s on found r
+    -- A SEARCH from rule s on found none
+    pub none_found : (end : ℕ) → ((t : TermAt ar ns right) → end ≡ right + length (flat t.term)) → (s : ℕ) →
+        ((b : SearchAsked rules ar ss ns ms ks right end) → back_to b.asked.kept.system b.asked.lows own b.asked.pair s ≡ false →
+        back_to b.asked.kept.system b.asked.lows own b.asked.pair rules ≡ false) → back s ≡ false → back rules ≡ false
+    none_found end ends s said = said (record { roots = rs; asked = a; ends = ends })
+
+    -- or r
     module _ (end : ℕ) (ends : (t : TermAt ar ns right) → end ≡ right + length (flat t.term)) (s r : ℕ)
         (said : (b : SearchAsked rules ar ss ns ms ks right end) → NextReached b.asked.kept.system b.asked.lows own b.asked.pair rules s r) where
       pub found_next : NextReached a.kept.system a.lows own a.pair rules s r
       found_next = said (record { roots = rs; asked = a; ends = ends })
 
-      -- no rule
-      pub none_found : back s ≡ false → rules ≤ r → back rules ≡ false
-      none_found h l =
-          let e : r ≡ rules = omega (arith, found_next.within) in
-          rw e at (found_next.none_between h)
+      pub found_reached : ArcReached ar ss ns ms right end r
+      found_reached = record { ended = record { asked = asked_of r found_next.within; ends = ends }; reached = found_next.reached }
 
-      module _ (h : r < rules) where
-        pub found_reached : ArcReached ar ss ns ms right end r
-        found_reached = record { ended = record { asked = asked_of r h; ends = ends }; reached = (found_next.reached h).1 }
+      -- to which an arc leads, or not
+      module _ (b : Bool) (agreed : (x : ArcReached ar ss ns ms right end r) → b ≡ arc x.ended.asked.kept.system x.ended.asked.pair (a_pair r 0)) where
+        pub found_back : b ≡ true → back rules ≡ true
+        unfolding found_reached
+        found_back e = arc_back r found_next.within found_next.lower (sym (agreed found_reached) ∙ e)
 
-        -- to which an arc leads, or not
-        module _ (b : Bool) (agreed : (x : ArcReached ar ss ns ms right end r) → b ≡ arc x.ended.asked.kept.system x.ended.asked.pair (a_pair r 0)) where
-          pub found_back : b ≡ true → back rules ≡ true
-          unfolding found_reached
-          found_back e = arc_back r h (found_next.reached h).0 (sym (agreed found_reached) ∙ e)
-
-          pub found_none : b ≡ false → back s ≡ false → back (r + 1) ≡ false
-          unfolding found_reached
-          found_none e none = none_more r (found_next.none_between none) (no_arc_there r (sym (agreed found_reached) ∙ e))
+        pub found_none : b ≡ false → back s ≡ false → back (r + 1) ≡ false
+        unfolding found_reached
+        found_none e none = none_more r (found_next.none_between none) (no_arc_there r (sym (agreed found_reached) ∙ e))
 
 -- FROM THE PAIR OF AN ENTRY: it is kept at its place of its rule's right side
 

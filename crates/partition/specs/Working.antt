@@ -1,13 +1,13 @@
 -- How the code judges 8 and 9: over the entries of the pairs that the certificate names, each with the number of its component.
 -- The contracts between our own functions speak of it; no promise to a user does.
-use Rattle.std.specs.Prelude.{◌≡◌, ℕ, zero, suc, ◌+◌, ◌*◌, ◌<◌, ◌≤◌, min, Bool, true, false, cond, ◌&&◌, ◌||◌, List, [], ◌∷◌, length, get_or, ◌==◌, nat_lt, slice_index, slice_index_or, slice_set}
+use Rattle.std.specs.Prelude.{◌≡◌, ℕ, zero, suc, ◌+◌, ◌*◌, ◌<◌, ◌≤◌, min, Bool, true, false, cond, ◌&&◌, ◌||◌, List, [], ◌∷◌, length, get_or, ◌==◌, nat_lt, slice_index, slice_index_or, slice_set, Option, None, Some, Result}
 use Rattle.terms.specs.Sides.{flat}
 use Rattle.terms.specs.Kept.{starts_room, symbols_room, TermAt}
 use Rattle.rewriting.specs.Terms.{System}
 use Rattle.rewriting.specs.Pairs.{Pair, is_pair}
-use Rattle.records.specs.declared.Answer.{Answer}
+use Rattle.records.specs.declared.Refusal.{Refusal}
 use Rattle.records.specs.Outcomes.{passed, refusal}
-use Rattle.records.specs.Answers.{answer_outcome}
+use Rattle.records.specs.Answers.{outcome_of}
 use Rattle.records.specs.Records.{all_records}
 use Rattle.records.specs.Order.{components_start}
 use Rattle.records.specs.Files.{Whole}
@@ -132,12 +132,18 @@ pub record SearchAsked (rules : ℕ) (arities starts nodes flags keys : List ℕ
   pub ends : (s : TermAt arities nodes right) → end ≡ right + length (flat s.term)
 
 -- r is a rule from `first` on with a pair in a component below `own` to which document 01's arc leads, and no arc leads back to one
--- before it; or r is `rules`
+-- before it
 pub record NextReached (p : System) (lows : List ℕ) (own : ℕ) (q : Pair) (rules first r : ℕ) : Type 0 where
-  pub within : r ≤ rules
+  pub within : r < rules
   pub later : first ≤ r
   pub none_between : back_to p lows own q first ≡ false → back_to p lows own q r ≡ false
-  pub reached : r < rules → (nat_lt (slice_index lows r) own ≡ true) × (reach_arc p q (a_pair r 0) ≡ true)
+  pub lower : nat_lt (slice_index lows r) own ≡ true
+  pub reached : reach_arc p q (a_pair r 0) ≡ true
+
+-- what `reached_from` answers: that rule, or that no arc leads back to one from `first` on
+abbrev pub SearchAnswer : System → (lows : List ℕ) → (own : ℕ) → Pair → (rules first : ℕ) → Option ℕ → Type 0
+SearchAnswer p lows own q rules first None = back_to p lows own q first ≡ false → back_to p lows own q rules ≡ false
+SearchAnswer p lows own q rules first (Some r) = NextReached p lows own q rules first r
 
 -- arcs back are asked for from the pair of an entry
 pub record BackAskedOf (e : Entry) (rules : ℕ) (arities starts nodes flags keys roots : List ℕ) : Type 0 where
@@ -164,5 +170,5 @@ unfoldable pub ordered : System → List Component → ℕ
 ordered p cs = cond (each_once (pairs p) (all_pairs cs)) (cond (back_arc (plain p) [] cs) 9 0) 8
 
 -- what `judge` answers
-unfoldable pub OrderedAs : System → List Component → Answer → Type 0
-OrderedAs p cs r = refusal (answer_outcome r) ≡ ordered p cs
+unfoldable pub OrderedAs : System → List Component → Result (Unit {0}) Refusal → Type 0
+OrderedAs p cs r = refusal (outcome_of r) ≡ ordered p cs

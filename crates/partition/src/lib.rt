@@ -1,11 +1,11 @@
 #![tactic(auto)]
 // 8 and 9: every pair stands once, and no arc leads back to a lower component.
 ghost use Rattle.std.specs.Prelude.{◌≡◌, ◌<◌, ◌≤◌, length};
-ghost use Rattle.partition.specs.Working.{slot, back_to, back_at, Keys, Roots, Lowered, NotedEntry, KeysAsked, BackAsked, SearchAsked, NextReached, BackAskedOf, Judgeable, OrderingAsked, OrderedAs};
+ghost use Rattle.partition.specs.Working.{slot, back_to, back_at, Keys, Roots, Lowered, NotedEntry, KeysAsked, BackAsked, SearchAsked, SearchAnswer, BackAskedOf, Judgeable, OrderingAsked, OrderedAs};
 
 use entries::{Entry, Store};
 use pack_reader::{MOST_NODES, MOST_RULES};
-use records::{Answer, MOST_PAIRS, Refusal};
+use records::{MOST_PAIRS, Refusal};
 use terms::MOST_SYMBOLS;
 
 // Above the number of every component.
@@ -15,11 +15,8 @@ const NO_COMPONENT: u16 = 65535;
 fn lower(lows: &mut [u16], s: usize, number: u16)
     ensures { Lowered s number lows.old lows.new }
 {
-    if lows.len() <= s {
-        return;
-    }
-    if number < lows[s] {
-        lows[s] = number;
+    if s < lows.len() {
+        lows[s] = number.min(lows[s]);
     }
 }
 
@@ -28,8 +25,8 @@ fn note(e: Entry, lows: &mut [u16], seen: &mut [u8]) -> bool
     requires { slot e < length seen.old }
     ensures { NotedEntry e lows.old lows.new seen.old seen.new result }
 {
-    lower(lows, e.rule as usize, e.component);
-    let slot = MOST_NODES * (e.rule as usize) + e.place as usize;
+    lower(lows, usize::from(e.rule), e.component);
+    let slot = MOST_NODES * usize::from(e.rule) + usize::from(e.place);
     let before = seen[slot];
     seen[slot] = 1;
     0 < before
@@ -40,11 +37,9 @@ fn keep_keys(starts: &[u16], nodes: &[u8], rules: usize, lows: &[u16], keys: &mu
     requires { KeysAsked rules starts.now nodes.now lows.now keys.old }
     ensures { Keys rules starts.now nodes.now lows.now keys.new }
 {
-    let mut s = 0;
-    while s < rules {
-        let at = starts[2 * s] as usize;
-        keys[s] = 65536 * (nodes[at] as u32) + lows[s] as u32;
-        s = s + 1;
+    for s in 0..rules {
+        let at = usize::from(starts[2 * s]);
+        keys[s] = 65536 * u32::from(nodes[at]) + u32::from(lows[s]);
     }
 }
 
@@ -53,16 +48,14 @@ fn lowest_of_roots(starts: &[u16], nodes: &[u8], rules: usize, lows: &[u16], roo
     requires { KeysAsked rules starts.now nodes.now lows.now roots.old }
     ensures { Roots rules starts.now nodes.now lows.now roots.new }
 {
-    let mut s = 0;
-    while s < rules {
-        let at = starts[2 * s] as usize;
-        lower(roots, nodes[at] as usize, lows[s]);
-        s = s + 1;
+    for s in 0..rules {
+        let at = usize::from(starts[2 * s]);
+        lower(roots, usize::from(nodes[at]), lows[s]);
     }
 }
 
 // The next rule from `first` on with a pair in a component below `own` to which document 01's arc leads from the pair whose right
-// side is kept from `right` to `end`, or `rules`; no arc leads back to a rule before it.
+// side is kept from `right` to `end`; no arc leads back to a rule before it.
 fn reached_from(
     arities: &[u8],
     starts: &[u16],
@@ -74,22 +67,20 @@ fn reached_from(
     end: usize,
     own: u16,
     first: usize,
-) -> usize
+) -> Option<usize>
     requires { SearchAsked rules arities.now starts.now nodes.now defined.now keys.now right end × (first ≤ rules) }
-    ensures { (a : SearchAsked rules arities.now starts.now nodes.now defined.now keys.now right end) → NextReached a.asked.kept.system a.asked.lows own a.asked.pair rules first result }
+    ensures { (a : SearchAsked rules arities.now starts.now nodes.now defined.now keys.now right end) → SearchAnswer a.asked.kept.system a.asked.lows own a.asked.pair rules first result }
 {
-    let from = 65536 * (nodes[right] as u32);
-    let mut s = first;
-    while s < rules {
+    let from = 65536 * u32::from(nodes[right]);
+    for s in first..rules {
         // One test for both: the rule has this root, and a component below `own`.
-        if std::num::wrapping_sub_u32(keys[s], from) < own as u32 {
+        if keys[s].wrapping_sub(from) < u32::from(own) {
             if pair_finder::arcs::reaches_to(arities, starts, nodes, defined, right, end, s) {
-                return s;
+                return Some(s);
             }
         }
-        s = s + 1;
     }
-    rules
+    None
 }
 
 // An arc leads from the pair whose right side is kept at `right` to a rule with a pair in a component below `own`.
@@ -107,20 +98,15 @@ fn back_from(
     requires { BackAsked rules arities.now starts.now nodes.now defined.now keys.now roots.now right }
     ensures { (a : BackAsked rules arities.now starts.now nodes.now defined.now keys.now roots.now right) → result ≡ back_to a.kept.system a.lows own a.pair rules }
 {
-    let c = nodes[right];
     // No rule with this root has a lower component.
-    if own <= roots[c as usize] {
+    if own <= roots[usize::from(nodes[right])] {
         return false;
     }
     let end = terms::skip(arities, nodes, right);
     let mut s = 0;
-    while s < rules {
-        let reached = reached_from(
-            arities, starts, nodes, defined, rules, keys, right, end, own, s,
-        );
-        if rules <= reached {
-            return false;
-        }
+    while let Some(reached) = reached_from(
+        arities, starts, nodes, defined, rules, keys, right, end, own, s,
+    ) {
         if pair_finder::arcs::agrees_to(arities, starts, nodes, defined, right, end, reached) {
             return true;
         }
@@ -143,7 +129,7 @@ fn back_from_entry(
     requires { BackAskedOf e rules arities.now starts.now nodes.now defined.now keys.now roots.now }
     ensures { (a : BackAskedOf e rules arities.now starts.now nodes.now defined.now keys.now roots.now) → result ≡ back_at a.kept.system a.lows rules e }
 {
-    let right = starts[2 * (e.rule as usize) + 1] as usize + e.place as usize;
+    let right = usize::from(starts[2 * usize::from(e.rule) + 1]) + usize::from(e.place);
     back_from(
         arities,
         starts,
@@ -167,39 +153,34 @@ pub fn judge(
     starts: &[u16],
     nodes: &[u8],
     defined: &[u8],
-) -> Answer
+) -> Result<(), Refusal>
     requires { OrderingAsked certificate.now store components rules arities.now starts.now nodes.now defined.now }
     ensures { (j : Judgeable certificate.now components rules arities.now starts.now nodes.now defined.now) → OrderedAs j.kept.system j.all result }
 {
     let n = store.count;
     if n != pair_finder::listing::count_pairs(starts, nodes, defined, rules) {
-        return Answer::Refused(Refusal::PairCount);
+        return Err(Refusal::PairCount);
     }
     let mut lows = [NO_COMPONENT; MOST_RULES];
     let mut seen = [0u8; MOST_PAIRS];
-    let mut i = 0;
-    while i < n {
-        let e = store.entries[i];
-        if note(e, &mut lows, &mut seen) {
-            return Answer::Refused(Refusal::PairCount);
+    for i in 0..n {
+        if note(store.entries[i], &mut lows, &mut seen) {
+            return Err(Refusal::PairCount);
         }
-        i = i + 1;
     }
     // One component has no lower one.
     if components <= 1 {
-        return Answer::Passed(0);
+        return Ok(());
     }
     let mut keys = [0u32; MOST_RULES];
     keep_keys(starts, nodes, rules, &lows, &mut keys);
     let mut roots = [NO_COMPONENT; MOST_SYMBOLS];
     lowest_of_roots(starts, nodes, rules, &lows, &mut roots);
-    i = 0;
-    while i < n {
+    for i in 0..n {
         let e = store.entries[i];
         if back_from_entry(e, arities, starts, nodes, defined, rules, &keys, &roots) {
-            return Answer::Refused(Refusal::BackArc);
+            return Err(Refusal::BackArc);
         }
-        i = i + 1;
     }
-    Answer::Passed(0)
+    Ok(())
 }

@@ -1,5 +1,5 @@
 -- `partition::back_from` meets its contract. The loop's invariant: no arc leads back to one of the first s rules.
-use Rattle.std.proofs.Common.{◌≡◌, sym, refl, arith}
+use Rattle.std.proofs.Common.{sym, refl, arith}
 use Rattle.pair_finder.proofs.Kept.{term_within}
 use Rattle.partition.specs.Working.{back_to}
 use Rattle.partition.proofs.Keys.{right_term, root_small, none_lower, found_next, none_found, found_reached, found_back, found_none}
@@ -9,79 +9,61 @@ pub bounds-nodes-right : goal.bounds-nodes-right
 unfolding back_to
 bounds-nodes-right c = term_within _ _ _ (right_term c.requires)
 
-pub overflow_cast-c : goal.overflow_cast-c
-unfolding back_to
-overflow_cast-c c = omega (arith, root_small c.requires)
-
-pub offset_bounds-roots-c : goal.offset_bounds-roots-c
-unfolding back_to
-offset_bounds-roots-c c = omega (arith, root_small c.requires)
-
-pub bounds-roots-c : goal.bounds-roots-c
-unfolding back_to
-bounds-roots-c c = let a = c.requires in omega (arith, root_small a, a.keyed.roots_are.long)
+pub bounds-roots-from : goal.bounds-roots-from
+bounds-roots-from c = let a = c.requires in omega (arith, root_small a, a.keyed.roots_are.long)
 
 pub returns-then-own-roots : goal.returns-then-own-roots
-returns-then-own-roots c = λ a. sym (none_lower a c.args.own c.if-own-roots.true)
+returns-then-own-roots c = λ a. sym (none_lower a c.args.own (rw c.from.ensures at c.if-own-roots.true))
 
 pub skip-end-requires : goal.skip-end-requires
 skip-end-requires c =
     let a = c.requires in
     (a.kept.arrays.arities_long, omega (arith, a.kept.arrays.nodes_long), right_term a)
 
-pub loop-s-init : goal.loop-s-init
+pub loop-reached-init : goal.loop-reached-init
 unfolding back_to
-loop-s-init c = (omega arith, λ a. refl)
+loop-reached-init c = (omega arith, λ a. refl)
 
-pub reached_from-reached-requires : goal.reached_from-reached-requires
-reached_from-reached-requires c =
+pub reached_from-requires : goal.reached_from-requires
+reached_from-requires c =
     let a = c.requires in
-    (record { roots = _; asked = a; ends = c.skip-end.ensures }, c.loop-s.invariant.0)
-
-pub returns-then-rules-reached : goal.returns-then-rules-reached
-returns-then-rules-reached c =
-    λ a.
-    let l = c.loop-s in
-    let own = c.args.own in
-    sym (none_found a own _ c.skip-end.ensures l.s _ c.reached_from-reached.ensures (l.invariant.1 a) c.if-rules-reached.true)
+    (record { roots = _; asked = a; ends = c.skip-end.ensures }, c.loop-reached.invariant.0)
 
 pub agrees_to-requires : goal.agrees_to-requires
 agrees_to-requires c =
-    let l = c.loop-s in
-    found_reached c.requires c.args.own _ c.skip-end.ensures l.s _ c.reached_from-reached.ensures c.if-rules-reached.false
+    let l = c.loop-reached in
+    found_reached c.requires c.args.own _ c.skip-end.ensures l.s _ c.in-Some.ensures
 
 pub returns-then-agrees_to : goal.returns-then-agrees_to
 returns-then-agrees_to c =
     λ a.
-    let l = c.loop-s in
+    let l = c.loop-reached in
     let own = c.args.own in
     sym
-    (found_back a own _ c.skip-end.ensures l.s _ c.reached_from-reached.ensures c.if-rules-reached.false _ c.agrees_to.ensures
+    (found_back a own _ c.skip-end.ensures l.s _ c.in-Some.ensures _ c.agrees_to.ensures
     c.if-agrees_to.true)
 
 pub overflow_add-s : goal.overflow_add-s
 unfolding back_to
-overflow_add-s c = omega (arith, c.if-rules-reached.false)
+overflow_add-s c = let found = found_next c.requires c.args.own _ c.skip-end.ensures c.loop-reached.s _ c.in-Some.ensures in omega (arith, found.within)
 
-pub loop-s-smaller : goal.loop-s-smaller
-loop-s-smaller c =
-    let l = c.loop-s in
-    let f = found_next c.requires c.args.own _ c.skip-end.ensures l.s _ c.reached_from-reached.ensures in
-    omega (arith, f.later, c.if-rules-reached.false)
+pub loop-reached-smaller : goal.loop-reached-smaller
+loop-reached-smaller c =
+    let l = c.loop-reached in
+    let f = found_next c.requires c.args.own _ c.skip-end.ensures l.s _ c.in-Some.ensures in
+    omega (arith, f.later, f.within)
 
-pub loop-s-preserved : goal.loop-s-preserved
-loop-s-preserved c =
-    let l = c.loop-s in
-    let own = c.args.own in (
-      omega (arith, c.if-rules-reached.false),
+pub loop-reached-preserved : goal.loop-reached-preserved
+loop-reached-preserved c =
+    let l = c.loop-reached in
+    let own = c.args.own in
+    let found = found_next c.requires own _ c.skip-end.ensures l.s _ c.in-Some.ensures in (
+      omega (arith, found.within),
       λ a.
-          found_none a own _ c.skip-end.ensures l.s _ c.reached_from-reached.ensures c.if-rules-reached.false _ c.agrees_to.ensures
+          found_none a own _ c.skip-end.ensures l.s _ c.in-Some.ensures _ c.agrees_to.ensures
           c.if-agrees_to.false (l.invariant.1 a),
     )
 
 pub returns : goal.returns
 returns c =
-    λ a.
-    let l = c.loop-s in
-    let e : l.s ≡ c.args.rules = omega arith in
-    rw (← e) (sym (l.invariant.1 a))
+    λ a. sym (none_found a c.args.own _ c.skip-end.ensures c.loop-reached.s c.in_default.ensures (c.loop-reached.invariant.1 a))

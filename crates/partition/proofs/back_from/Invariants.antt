@@ -3,9 +3,9 @@ use Rattle.std.proofs.Common.{◌≡◌, ◌-◌, ◌≤◌, false}
 use Rattle.partition.specs.Working.{back_to, BackAsked}
 use Rattle.partition.proofs.back_from.Given as goal
 
-abbrev pub invariant-loop-s : goal.invariant-loop-s
-invariant-loop-s l =
+abbrev pub invariant-loop-reached : goal.invariant-loop-reached
+invariant-loop-reached l =
     (l.s ≤ l.rules) × ((a : BackAsked l.rules l.arities l.starts l.nodes l.defined l.keys l.roots l.right) → back_to a.kept.system a.lows l.own a.pair l.s ≡ false)
 
-abbrev pub decreases-loop-s : goal.decreases-loop-s
-decreases-loop-s l = l.rules - l.s
+abbrev pub decreases-loop-reached : goal.decreases-loop-reached
+decreases-loop-reached l = l.rules - l.s

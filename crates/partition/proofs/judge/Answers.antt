@@ -82,9 +82,6 @@ returns-then-note c =
     let counts = c.count_pairs.ensures in
     sym (eight_twice j (again (within _ c.requires same counts l.i h) l.invariant.1 (is_kept _ c.requires same counts l.i h) c.note.ensures c.if-note.true))
 
-pub overflow_add-i : goal.overflow_add-i
-overflow_add-i c = omega (arith, few _ c.requires c.if-n-count_pairs.false c.count_pairs.ensures, c.loop-i-test.true)
-
 pub loop-i-preserved : goal.loop-i-preserved
 loop-i-preserved c =
     let l = c.loop-i in
@@ -149,9 +146,6 @@ returns-then-back_from_entry c =
     (by_arcs j (count _ c.requires same counts) (none_again past_all c.loop-i.invariant.1) lows (all_lowest past_all c.loop-i.invariant.1) true
     (found j.kept.system lows a.rules es l.i (l.invariant.1 j lows keyed) (within _ c.requires same counts l.i h) _ (is_kept _ c.requires same counts l.i h)
     _ (c.back_from_entry.ensures (record { kept = j.kept; lows = lows; keyed = keyed; is = pair_kept _ c.requires same counts l.i h j })) c.if-back_from_entry.true))
-
-pub overflow_add-i-in-loop-i-2 : goal.overflow_add-i-in-loop-i-2
-overflow_add-i-in-loop-i-2 c = omega (arith, few _ c.requires c.if-n-count_pairs.false c.count_pairs.ensures, c.loop-i-2-test.true)
 
 pub loop-i-2-preserved : goal.loop-i-2-preserved
 loop-i-2-preserved c =

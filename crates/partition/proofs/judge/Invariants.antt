@@ -1,5 +1,5 @@
 -- `partition::judge` meets its contract: 8 for a wrong count or a pair that stands twice, 9 for an arc back, else neither.
-use Rattle.std.proofs.Common.{◌≡◌, ℕ, ◌-◌, ◌≤◌, List, drop}
+use Rattle.std.proofs.Common.{◌≡◌, ℕ, ◌≤◌, List, drop}
 use Rattle.records.specs.Records.{all_records}
 use Rattle.entries.specs.declared.Entry.{Entry}
 use Rattle.entries.specs.Entries.{entries_of}
@@ -14,14 +14,8 @@ of_certificate ds = entries_of 0 (all_records ds)
 abbrev pub invariant-loop-i : goal.invariant-loop-i
 invariant-loop-i l = (l.i ≤ l.n) × Noted (of_certificate l.certificate) l.lows l.seen l.i
 
-abbrev pub decreases-loop-i : goal.decreases-loop-i
-decreases-loop-i l = l.n - l.i
-
 abbrev pub invariant-loop-i-2 : goal.invariant-loop-i-2
 invariant-loop-i-2 l =
     (l.i ≤ l.n)
     × ((j : Judgeable l.certificate l.components l.rules l.arities l.starts l.nodes l.defined) (lows : List ℕ) → Keyed l.rules l.starts l.nodes lows l.keys l.roots →
     any_back j.kept.system lows l.rules (drop l.i (of_certificate l.certificate)) ≡ any_back j.kept.system lows l.rules (of_certificate l.certificate))
-
-abbrev pub decreases-loop-i-2 : goal.decreases-loop-i-2
-decreases-loop-i-2 l = l.n - l.i

@@ -1,13 +1,10 @@
 -- `partition::lowest_of_roots` meets its contract. The loop's invariant: no root's component is above one of the first s rules'.
-use Rattle.std.proofs.Common.{◌≡◌, ◌*◌, get_or, arith}
+use Rattle.std.proofs.Common.{◌≡◌, arith}
 use Rattle.partition.proofs.Keys.{more_roots}
 use Rattle.partition.proofs.lowest_of_roots.Goals as goal
 
 pub loop-s-init : goal.loop-s-init
 loop-s-init c = (omega arith, record { long = c.requires.room_long; low = λ s h. absurd (omega arith) })
-
-pub overflow_mul-at : goal.overflow_mul-at
-overflow_mul-at c = omega (arith, c.requires.begun.few)
 
 pub offset_bounds-starts-s : goal.offset_bounds-starts-s
 offset_bounds-starts-s c = omega (arith, c.requires.begun.few)
@@ -15,18 +12,8 @@ offset_bounds-starts-s c = omega (arith, c.requires.begun.few)
 pub bounds-starts-s : goal.bounds-starts-s
 bounds-starts-s c = omega (arith, c.requires.begun.few, c.requires.begun.starts_long)
 
-pub overflow_cast-at : goal.overflow_cast-at
-overflow_cast-at c = omega (arith, c.shared_slice_known-in-loop-s-1.given (2 * c.loop-s.s))
-
 pub bounds-nodes-at : goal.bounds-nodes-at
-bounds-nodes-at c = c.requires.begun.within c.loop-s.s c.loop-s-test.true
-
--- the byte read is below 256
-pub overflow_cast-nodes : goal.overflow_cast-nodes
-overflow_cast-nodes c =
-    let l = c.loop-s in
-    let a = c.args in
-    omega (arith, c.shared_slice_known-in-loop-s-2-1.given (get_or a.starts.now (2 * l.s) 0))
+bounds-nodes-at c = rw c.from-at.ensures (c.requires.begun.within c.loop-s.s c.loop-s-test.true)
 
 pub offset_bounds-lows-s : goal.offset_bounds-lows-s
 offset_bounds-lows-s c = omega (arith, c.requires.begun.few)
@@ -34,14 +21,11 @@ offset_bounds-lows-s c = omega (arith, c.requires.begun.few)
 pub bounds-lows-s : goal.bounds-lows-s
 bounds-lows-s c = omega (arith, c.requires.begun.few, c.requires.lows_long)
 
-pub overflow_add-s : goal.overflow_add-s
-overflow_add-s c = omega (arith, c.requires.begun.few)
-
 pub loop-s-preserved : goal.loop-s-preserved
 loop-s-preserved c =
     let l = c.loop-s in
     let a = c.args in
-    (omega arith, more_roots a.starts.now a.nodes.now a.lows.now l.s l.roots _ l.invariant.1 c.lower.ensures)
+    (omega arith, more_roots a.starts.now a.nodes.now a.lows.now l.s l.roots _ l.invariant.1 (rw (c.from.ensures, c.from-at.ensures) at c.lower.ensures))
 
 pub returns : goal.returns
 returns c =

@@ -1,14 +1,12 @@
 -- `partition::reached_from` meets its contract. The loop's invariant: no arc leads back to one of the rules from `first` up to s.
-use Rattle.std.proofs.Common.{◌≡◌, sym, ◌∙◌, ⊎_elim, arith}
+use Rattle.std.proofs.Common.{◌≡◌, sym, ◌∙◌, arith}
 use Rattle.pair_finder.proofs.Kept.{term_within}
 use Rattle.partition.proofs.Keys.{asked_of, right_term, root_small, none_more, none_reached, is_lower, no_lower}
+use Rattle.partition.proofs.reached_from.Goals.{then-keys-s+else-reaches_to, else-keys-s}
 use Rattle.partition.proofs.reached_from.Goals as goal
 
 pub bounds-nodes-right : goal.bounds-nodes-right
 bounds-nodes-right c = term_within _ _ _ (right_term c.requires.0.asked)
-
-pub overflow_cast-from : goal.overflow_cast-from
-overflow_cast-from c = omega (arith, root_small c.requires.0.asked)
 
 pub overflow_mul-from : goal.overflow_mul-from
 overflow_mul-from c = omega (arith, root_small c.requires.0.asked)
@@ -33,13 +31,11 @@ returns-then-reaches_to c =
     let l = c.loop-s in
     let h = c.loop-s-test.true in
     record {
-      within = l.invariant.1;
+      within = h;
       later = l.invariant.0;
       none_between = l.invariant.2 a;
-      reached = λ _. (
-        is_lower a.asked c.args.own l.s _ h c.wrapping_sub_u32.ensures.value c.ranges.own.fits c.if-wrapping_sub_u32-own.true,
-        sym (c.reaches_to.ensures (asked_of a.asked l.s h)) ∙ c.if-reaches_to.true,
-      );
+      lower = is_lower a.asked c.args.own l.s h (omega (arith, c.type_inv.keys l.s)) c.ranges.own.fits (rw (c.from-from.ensures, c.from.ensures) at c.if-keys-s.true);
+      reached = sym (c.reaches_to.ensures (asked_of a.asked l.s h)) ∙ c.if-reaches_to.true;
     }
 
 -- either no arc leads to the rule, or it has another root or no lower component
@@ -47,16 +43,15 @@ pub loop-s-preserved : goal.loop-s-preserved
 loop-s-preserved c =
     let l = c.loop-s in
     let own = c.args.own in
-    let h = c.loop-s-test.true in
-    let difference = c.wrapping_sub_u32 in (
+    let h = c.loop-s-test.true in (
       omega (arith, l.invariant.0),
       omega arith,
       λ a none.
           none_more a.asked own l.s (l.invariant.2 a none)
-          (⊎_elim
-          (λ w. none_reached a.asked own l.s h (sym (w.reaches_to.ensures (asked_of a.asked l.s h)) ∙ w.if-reaches_to.false))
-          (λ w. no_lower a.asked own l.s _ h difference.ensures.value difference.type_inv w.if-wrapping_sub_u32-own.false)
-          c.if-wrapping_sub_u32-own.branch-raw),
+          (elim c.if-keys-s.branch [
+            | then-keys-s+else-reaches_to w ↦ none_reached a.asked own l.s h (sym (w.reaches_to.ensures (asked_of a.asked l.s h)) ∙ w.if-reaches_to.false)
+            | else-keys-s w ↦ no_lower a.asked own l.s h (omega (arith, c.type_inv.keys l.s)) (rw (c.from-from.ensures, c.from.ensures) at w.if-keys-s.false)
+          ]),
     )
 
 pub returns : goal.returns
@@ -64,4 +59,4 @@ returns c =
     λ a.
     let l = c.loop-s in
     let e : l.s ≡ c.args.rules = omega (arith, l.invariant.1) in
-    record { within = omega arith; later = omega (arith, l.invariant.0); none_between = rw e at (l.invariant.2 a); reached = λ h. absurd (omega arith) }
+    rw e at (l.invariant.2 a)

@@ -1,5 +1,5 @@
 -- `partition::reached_from` meets its contract. The loop's invariant: no arc leads back to one of the rules from `first` up to s.
-use Rattle.std.proofs.Common.{◌≡◌, ◌-◌, ◌≤◌, false}
+use Rattle.std.proofs.Common.{◌≡◌, ◌≤◌, false}
 use Rattle.partition.specs.Working.{back_to, SearchAsked}
 use Rattle.partition.proofs.reached_from.Given as goal
 
@@ -8,6 +8,3 @@ invariant-loop-s l =
     (l.first ≤ l.s) × (l.s ≤ l.rules)
     × ((a : SearchAsked l.rules l.arities l.starts l.nodes l.defined l.keys l.right l.end) →
     back_to a.asked.kept.system a.asked.lows l.own a.asked.pair l.first ≡ false → back_to a.asked.kept.system a.asked.lows l.own a.asked.pair l.s ≡ false)
-
-abbrev pub decreases-loop-s : goal.decreases-loop-s
-decreases-loop-s l = l.rules - l.s
