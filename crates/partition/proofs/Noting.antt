@@ -13,7 +13,7 @@ lowest_small s [] = omega arith
 lowest_small s (e ∷ es) = let k = lowest_small s es in by_test (eqb e.rule s) (λ z. rw z (omega arith)) (λ z. rw z k)
 
 -- what has been done when the entries from i on are left
-pub record Noted (es : List Entry) (lows seen : List ℕ) (i : ℕ) : Type 0 where
+pub record Noted (es : List Entry) (lows : List ℕ) (seen : List Bool) (i : ℕ) : Type 0 where
   pub lows_long : length lows ≡ 64
   pub small : (s : ℕ) → s < 64 → get_or lows s 0 ≤ 65535
   pub lowest_is : (s : ℕ) → s < 64 → min (get_or lows s 0) (lowest s (drop i es)) ≡ lowest s es
@@ -28,11 +28,11 @@ none_noted es n e =
       lows_long = length-replicate n 65535 ∙ e;
       small = λ s h. rw (get_or-replicate {A = ℕ} n s 65535 0 (omega arith)) (omega arith);
       lowest_is = λ s h. let k = lowest_small s es in rw (get_or-replicate {A = ℕ} n s 65535 0 (omega arith)) (omega arith);
-      seen_long = length-replicate {A = ℕ} 2048 0;
+      seen_long = length-replicate {A = Bool} 2048 false;
       taken_is = refl;
     }
 
-pub start : (es : List Entry) → Noted es (replicate 64 65535) (replicate 2048 0) 0
+pub start : (es : List Entry) → Noted es (replicate 64 65535) (replicate 2048 false) 0
 unfolding untaken
 start es = none_noted es 64 refl
 
@@ -41,8 +41,8 @@ regrouped : (own : Bool) (x m l y : ℕ) → min x (cond own (min m l) l) ≡ y 
 regrouped true x m l y g = omega arith
 regrouped false x m l y g = g
 
-module _ {es : List Entry} {lows seen : List ℕ} {i : ℕ} (h : i < length es) (d : Noted es lows seen i) {e : Entry} (is : e ≡ get_or es i none)
-    {lows' seen' : List ℕ} {b : Bool} (n : NotedEntry e lows lows' seen seen' b) where
+module _ {es : List Entry} {lows : List ℕ} {seen : List Bool} {i : ℕ} (h : i < length es) (d : Noted es lows seen i) {e : Entry} (is : e ≡ get_or es i none)
+    {lows' : List ℕ} {seen' : List Bool} {b : Bool} (n : NotedEntry e lows lows' seen seen' b) where
   abbrev rest : List Entry
   rest = drop (suc i) es
 
@@ -53,12 +53,12 @@ module _ {es : List Entry} {lows seen : List ℕ} {i : ℕ} (h : i < length es) 
   unfolding lowest
   lowest_here s = ap (lowest s) here
 
-  taken_here : any_taken untaken es ≡ (taken seen (slot e) || any_taken (set seen (slot e) 1) rest)
+  taken_here : any_taken untaken es ≡ (taken seen (slot e) || any_taken (set seen (slot e) true) rest)
   unfolding any_taken
   taken_here = sym d.taken_is ∙ ap (any_taken seen) here
 
   pub again : b ≡ true → any_taken untaken es ≡ true
-  again was = taken_here ∙ ap (λ (x : Bool). x || any_taken (set seen (slot e) 1) rest) (sym n.told ∙ was)
+  again was = taken_here ∙ ap (λ (x : Bool). x || any_taken (set seen (slot e) true) rest) (sym n.told ∙ was)
 
   pub first : b ≡ false → Noted es lows' seen' (i + 1)
   first not_yet =
@@ -73,11 +73,11 @@ module _ {es : List Entry} {lows seen : List ℕ} {i : ℕ} (h : i < length es) 
             rw (lowered s (omega (arith, d.lows_long)))
             (regrouped (eqb e.rule s) (get_or lows s 0) e.component (lowest s rest) _
             (ap (λ (k : ℕ). min (get_or lows s 0) k) (sym (lowest_here s)) ∙ d.lowest_is s f));
-        seen_long = length-set seen (slot e) 1 ∙ d.seen_long;
-        taken_is = sym (taken_here ∙ ap (λ (x : Bool). x || any_taken (set seen (slot e) 1) rest) (sym n.told ∙ not_yet));
+        seen_long = length-set seen (slot e) true ∙ d.seen_long;
+        taken_is = sym (taken_here ∙ ap (λ (x : Bool). x || any_taken (set seen (slot e) true) rest) (sym n.told ∙ not_yet));
       })
 
-module _ {es : List Entry} {lows seen : List ℕ} {i : ℕ} (h : length es ≤ i) (d : Noted es lows seen i) where
+module _ {es : List Entry} {lows : List ℕ} {seen : List Bool} {i : ℕ} (h : length es ≤ i) (d : Noted es lows seen i) where
   none_left : drop i es ≡ []
   none_left = drop_of_length-le es {i = i} h
 

@@ -43,14 +43,14 @@ doubled_more (r ∷ qs) q =
 -- THE SLOTS know the pairs seen
 
 -- the slot is taken
-abbrev pub taken : (ms : List ℕ) → (at : ℕ) → Bool
-taken ms k = ltb 0 (get_or ms k 0)
+abbrev pub taken : (ms : List Bool) → (at : ℕ) → Bool
+taken ms k = get_or ms k false
 
-record Seen (ms : List ℕ) (qs : List Pair) : Type 0 where
+record Seen (ms : List Bool) (qs : List Pair) : Type 0 where
   pub long : length ms ≡ 2048
   pub tells : (i k : ℕ) → i < 64 → k < 32 → taken ms (32 * i + k) ≡ ltb 0 (count_pair (a_pair i k) qs)
 
-module _ (ms : List ℕ) (qs : List Pair) (q : Pair) (small : Small q) (seen : Seen ms qs) where
+module _ (ms : List Bool) (qs : List Pair) (q : Pair) (small : Small q) (seen : Seen ms qs) where
   abbrev own : ℕ
   own = 32 * q.at_rule + q.place
 
@@ -64,51 +64,51 @@ module _ (ms : List ℕ) (qs : List Pair) (q : Pair) (small : Small q) (seen : S
       let k_is : k ≡ q.place = omega arith in
       not_both (same_pair (a_pair i k) q) (rw (i_is, k_is) (same_pair_refl q)) other
 
-  tells_more : (i k : ℕ) → i < 64 → k < 32 → taken (set ms own 1) (32 * i + k) ≡ ltb 0 (count_pair (a_pair i k) (qs ++ (q ∷ [])))
+  tells_more : (i k : ℕ) → i < 64 → k < 32 → taken (set ms own true) (32 * i + k) ≡ ltb 0 (count_pair (a_pair i k) (qs ++ (q ∷ [])))
   tells_more i k i_small k_small =
       by_test (same_pair (a_pair i k) q)
       (λ h.
       let same = same_pair_eq (a_pair i k) q h in
       let i_is : i ≡ q.at_rule = ap (λ (r : Pair). r.at_rule) same in
       let k_is : k ≡ q.place = ap (λ (r : Pair). r.place) same in
-      let there : get_or (set ms own 1) (32 * i + k) 0 ≡ 1 = rw (i_is, k_is) (get_or-set_same ms own 1 0 in_range) in
-      ap (ltb 0) there
+      let there : get_or (set ms own true) (32 * i + k) false ≡ true = rw (i_is, k_is) (get_or-set_same ms own true false in_range) in
+      there
       ∙ sym (count_more (a_pair i k) q qs ∙ rw h (or-true (ltb 0 (count_pair (a_pair i k) qs)))))
       (λ h.
-      ap (ltb 0) (get_or-set_other ms own (32 * i + k) 1 0 (slots_apart i k k_small h))
+      get_or-set_other ms own (32 * i + k) true false (slots_apart i k k_small h)
       ∙ seen.tells i k i_small k_small
       ∙ sym (count_more (a_pair i k) q qs ∙ rw h (or-false (ltb 0 (count_pair (a_pair i k) qs)))))
 
-  seen_more : Seen (set ms own 1) (qs ++ (q ∷ []))
-  seen_more = record { long = length-set ms own 1 ∙ seen.long; tells = tells_more }
+  seen_more : Seen (set ms own true) (qs ++ (q ∷ []))
+  seen_more = record { long = length-set ms own true ∙ seen.long; tells = tells_more }
 
 -- THE RUN: what stands twice among the pairs seen, or is found taken later
 
-run : (es : List Entry) (ms : List ℕ) (qs : List Pair) → Each Small (map named es) → Seen ms qs →
+run : (es : List Entry) (ms : List Bool) (qs : List Pair) → Each Small (map named es) → Seen ms qs →
     (doubled qs || any_taken ms es) ≡ doubled (qs ++ map named es)
 unfolding any_taken
 run [] ms qs small seen = rw (append-nil qs) (or-false (doubled qs))
 run (e ∷ es) ms qs small seen =
     let q = named e in
     rw (seen.tells e.rule e.place (each_head small).0 (each_head small).1, ← append_assoc qs (q ∷ []) (map named es))
-    (sym (or_assoc (doubled qs) (ltb 0 (count_pair q qs)) (any_taken (set ms (slot e) 1) es))
-    ∙ ap (λ (b : Bool). b || any_taken (set ms (slot e) 1) es) (sym (doubled_more qs q))
-    ∙ run es (set ms (slot e) 1) (qs ++ (q ∷ [])) (each_tail small) (seen_more ms qs q (each_head small) seen))
+    (sym (or_assoc (doubled qs) (ltb 0 (count_pair q qs)) (any_taken (set ms (slot e) true) es))
+    ∙ ap (λ (b : Bool). b || any_taken (set ms (slot e) true) es) (sym (doubled_more qs q))
+    ∙ run es (set ms (slot e) true) (qs ++ (q ∷ [])) (each_tail small) (seen_more ms qs q (each_head small) seen))
 
 -- THE START, where no slot is taken; for any number of slots, so that their list is not written out
 
-fresh : (n : ℕ) → n ≡ 2048 → Seen (replicate n 0) []
+fresh : (n : ℕ) → n ≡ 2048 → Seen (replicate n false) []
 unfolding count_pair
 fresh n h =
     record {
-      long = length-replicate n 0 ∙ h;
-      tells = λ i k i_small k_small. ap (ltb 0) (get_or-replicate {A = ℕ} n (32 * i + k) 0 0 (omega arith));
+      long = length-replicate n false ∙ h;
+      tells = λ i k i_small k_small. get_or-replicate {A = Bool} n (32 * i + k) false false (omega arith);
     }
 
 -- no slot is taken
-unfoldable pub untaken : List ℕ
-untaken = replicate 2048 0
+unfoldable pub untaken : List Bool
+untaken = replicate 2048 false
 
 pub twice_means : (es : List Entry) → Each Small (map named es) → any_taken untaken es ≡ doubled (map named es)
 unfolding doubled untaken
-twice_means es h = run es (replicate 2048 0) [] h (fresh 2048 refl)
+twice_means es h = run es (replicate 2048 false) [] h (fresh 2048 refl)

@@ -45,9 +45,9 @@ abbrev pub slot : Entry → ℕ
 slot e = 32 * e.rule + e.place
 
 -- some entry's slot is taken when its turn comes
-unfoldable pub any_taken : (seen : List ℕ) → List Entry → Bool
+unfoldable pub any_taken : (seen : List Bool) → List Entry → Bool
 any_taken seen [] = false
-any_taken seen (e ∷ es) = nat_lt 0 (slice_index seen (slot e)) || any_taken (slice_set seen (slot e) 1) es
+any_taken seen (e ∷ es) = slice_index_or seen (slot e) false || any_taken (slice_set seen (slot e) true) es
 
 -- the lowest component with a pair of rule s; 65535 if none has one
 unfoldable pub lowest : (s : ℕ) → List Entry → ℕ
@@ -105,10 +105,10 @@ pub record Lowered (s number : ℕ) (before after : List ℕ) : Type 0 where
   pub lowered : (t : ℕ) → t < length before → slice_index after t ≡ cond (s == t) (min number (slice_index before t)) (slice_index before t)
 
 -- what `note` answers and leaves: the entry's rule is lowered, its slot taken, and r says whether it was taken before
-pub record NotedEntry (e : Entry) (lows lows_after seen seen_after : List ℕ) (r : Bool) : Type 0 where
+pub record NotedEntry (e : Entry) (lows lows_after : List ℕ) (seen seen_after : List Bool) (r : Bool) : Type 0 where
   pub lowered : Lowered e.rule e.component lows lows_after
-  pub told : r ≡ nat_lt 0 (slice_index seen (slot e))
-  pub takes : seen_after ≡ slice_set seen (slot e) 1
+  pub told : r ≡ slice_index_or seen (slot e) false
+  pub takes : seen_after ≡ slice_set seen (slot e) true
 
 -- the rules' roots and lowest components are to be put into `room`
 pub record KeysAsked (rules : ℕ) (starts nodes lows room : List ℕ) : Type 0 where

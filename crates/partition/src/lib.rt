@@ -21,15 +21,13 @@ fn lower(lows: &mut [u16], s: usize, number: u16)
 }
 
 // Lowers the rule's lowest component to the entry's and takes the pair's slot. Says whether it was taken before.
-fn note(e: Entry, lows: &mut [u16], seen: &mut [u8]) -> bool
+fn note(e: Entry, lows: &mut [u16], seen: &mut [bool]) -> bool
     requires { slot e < length seen.old }
     ensures { NotedEntry e lows.old lows.new seen.old seen.new result }
 {
     lower(lows, usize::from(e.rule), e.component);
     let slot = MOST_NODES * usize::from(e.rule) + usize::from(e.place);
-    let before = seen[slot];
-    seen[slot] = 1;
-    0 < before
+    std::mem::replace(&mut seen[slot], true)
 }
 
 // The root of each rule's left side and the rule's lowest component, as one number.
@@ -162,7 +160,7 @@ pub fn judge(
         return Err(Refusal::PairCount);
     }
     let mut lows = [NO_COMPONENT; MOST_RULES];
-    let mut seen = [0u8; MOST_PAIRS];
+    let mut seen = [false; MOST_PAIRS];
     for i in 0..n {
         if note(store.entries[i], &mut lows, &mut seen) {
             return Err(Refusal::PairCount);
