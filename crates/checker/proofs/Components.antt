@@ -12,9 +12,9 @@ use lib.Seq.{drop-cons, get_or-append-add}
 use borrow.Author.Tests.{ltb-true, ltb-false, eqb-true}
 use Rattle.rewriting.specs.Terms.{System}
 use Rattle.rewriting.specs.Pairs.{Pair}
-use Rattle.records.specs.declared.Answer.TheVariants.{Passed, Refused}
+use Rattle.std.specs.Prelude.{Option, None, Result, Ok, Err}
 use Rattle.records.specs.declared.Refusal.{Refusal}
-use Rattle.records.specs.Answers.{number_of, answer_outcome}
+use Rattle.records.specs.Answers.{number_of, outcome_of}
 use Rattle.records.specs.declared.Record.{Record}
 use Rattle.records.specs.Records.{record_at, all_records}
 use Rattle.pairs.specs.Listing.{a_pair}
@@ -24,7 +24,7 @@ use Rattle.certificates.specs.Encoding.{component_records}
 use Rattle.judging.specs.Judges.{plain}
 use Rattle.judging.specs.Judge.{all_pairs, call, calls, component_refusal, components_refusal}
 use Rattle.weights.specs.Table.{MarkedIs}
-use Rattle.checker.specs.Working.{answered, record_count, ComponentJudged, NumbersTell, RulesKnown, KnownAfter, all_left_under, AllTold}
+use Rattle.checker.specs.Working.{answered, record_count, ComponentJudged, next_of, NumbersTell, RulesKnown, KnownAfter, all_left_under, AllTold}
 use Rattle.checker.specs.declared.component.Found.{Found}
 use Rattle.checker.specs.Working.{ComponentThere, ComponentAsked, ComponentAnswered, ComponentsAsked}
 use Rattle.checker.proofs.Positions.{next_component}
@@ -39,7 +39,7 @@ module _ {cert : List ℕ} {components rules : ℕ} {ar ss ns ms lefts₀ : List
   abbrev all : List Component
   all = a.all
 
-  pub record Left (at first i before : ℕ) (table lefts : List ℕ) : Type 0 where
+  pub record Left (at first i : ℕ) (before : Option ℕ) (table lefts : List ℕ) : Type 0 where
     pub are : drop at (all_records cert) ≡ component_records i (drop i all)
     pub number : components_refusal p (plain p) all ≡ components_refusal p (plain p) (drop i all)
     pub known : RulesKnown p cert at before table
@@ -49,7 +49,7 @@ module _ {cert : List ℕ} {components rules : ℕ} {ar ss ns ms lefts₀ : List
     pub told : (k : ℕ) → k < first → get_or lefts k 0 ≡ get_or (all_left_under p all) k 0
     pub ahead : (k : ℕ) → get_or (all_left_under p all) (first + k) 0 ≡ get_or (all_left_under p (drop i all)) k 0
 
-  pub all_left : {table : List ℕ} → RulesKnown p cert 0 0 table → Left 0 0 0 0 table lefts₀
+  pub all_left : {table : List ℕ} → RulesKnown p cert 0 None table → Left 0 0 0 None table lefts₀
   all_left known =
       record {
         are = a.are;
@@ -62,7 +62,7 @@ module _ {cert : List ℕ} {components rules : ℕ} {ar ss ns ms lefts₀ : List
         ahead = λ k. ap (λ n. get_or (all_left_under p all) n 0) (zero-add k);
       }
 
-  module _ {at first i before : ℕ} {table lefts : List ℕ} (s : Left at first i before table lefts) where
+  module _ {at first i : ℕ} {before : Option ℕ} {table lefts : List ℕ} (s : Left at first i before table lefts) where
     pub none_left : components ≤ i → 0 ≡ components_refusal p (plain p) all
     unfolding components_refusal
     none_left h = sym (s.number ∙ ap (components_refusal p (plain p)) (drop_of_length-le all {i = i} (omega (arith, a.counted))))
@@ -115,21 +115,21 @@ module _ {cert : List ℕ} {components rules : ℕ} {ar ss ns ms lefts₀ : List
       abbrev number : ℕ
       number = component_refusal p (plain p) component
 
-      module _ {header : Record} (read : header ≡ record_at cert (8 * at)) (unmarked : MarkedIs table []) {after lefts' : List ℕ} {found_Here : Found}
-          (d : ComponentAnswered cert at header first before rules ar ss ns ms table after lefts lefts' found_Here) where
-        judged : ComponentJudged p component at found_Here.answer
+      module _ {header : Record} (read : header ≡ record_at cert (8 * at)) (unmarked : MarkedIs table []) {after lefts' : List ℕ} {r : Result Found Refusal}
+          (d : ComponentAnswered cert at header first before rules ar ss ns ms table after lefts lefts' r) where
+        judged : ComponentJudged p component at (next_of r)
         judged = d.judged (asked read unmarked)
 
-        pub refuses : (x : Refusal) → found_Here.answer ≡ Refused x → number_of x ≡ components_refusal p (plain p) all
+        pub refuses : (x : Refusal) → r ≡ Err x → number_of x ≡ components_refusal p (plain p) all
         unfolding ComponentJudged answered
         refuses x e =
-            let found = answer_refused (eqb number 0) (at + record_count component) number (number_of x) (ap answer_outcome (sym e) ∙ judged) in
+            let found = answer_refused (eqb number 0) (at + record_count component) number (number_of x) (ap (λ (x : Result Found Refusal). outcome_of (next_of x)) (sym e) ∙ judged) in
             found.1 ∙ sym (number_here ∙ rw found.0)
 
-        module _ (next : ℕ) (e : found_Here.answer ≡ Passed next) where
-          found : (eqb number 0 ≡ true) × (next ≡ at + record_count component)
+        module _ (f : Found) (e : r ≡ Ok f) where
+          found : (eqb number 0 ≡ true) × (f.next ≡ at + record_count component)
           unfolding ComponentJudged answered
-          found = answer_passed (eqb number 0) (at + record_count component) number next (ap answer_outcome (sym e) ∙ judged)
+          found = answer_passed (eqb number 0) (at + record_count component) number f.next (ap (λ (x : Result Found Refusal). outcome_of (next_of x)) (sym e) ∙ judged)
 
           pub accepted : number ≡ 0
           accepted = eqb-true number 0 found.0
@@ -163,14 +163,14 @@ module _ {cert : List ℕ} {components rules : ℕ} {ar ss ns ms lefts₀ : List
               ∙ ap (λ (cs : List Component). get_or (all_left_under p cs) (length mine + k) 0) others
               ∙ get_or-append-add mine (all_left_under p (drop (suc i) all)) k 0
 
-          pub goes_on : {count : ℕ} → length component.pairs ≡ count → Left next (first + count) (i + 1) found_Here.weights after lefts'
+          pub goes_on : {count : ℕ} → length component.pairs ≡ count → Left f.next (first + count) (i + 1) f.weights after lefts'
           unfolding KnownAfter record_count
           goes_on {count} counted =
               let others_stay = d.others (asked read unmarked) in
               record {
                 are = rw (found.1, add-one) (next_component there.stands);
                 number = rw add-one (number_here ∙ rw found.0);
-                known = rw found.1 (d.known (asked read unmarked) accepted);
+                known = rw found.1 (d.known (asked read unmarked) f e accepted);
                 pairs_left = rw (add-one, ← counted) (let e = pairs_here in omega arith);
                 lefts_long = others_stay.long ∙ s.lefts_long;
                 fresh = λ k l. others_stay.higher k (omega (arith, counted)) ∙ s.fresh k (omega arith);

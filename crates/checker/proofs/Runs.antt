@@ -1,37 +1,30 @@
 -- The weight records of a kind that stand from a record on, one after another: where the record there is of the kind, it is the
 -- first weight's, and the others stand from the next record on; else there are none.
 use mathlib.Core.Path.{◌≡◌, refl, sym, ap, ◌∙◌}
-use mathlib.Core.Bool.{true}
 use mathlib.Core.List.{List, [], ◌∷◌, ◌++◌, head-eq_of_cons-eq, tail-eq_of_cons-eq}
 use Prim.Native.Nat.{ℕ, suc, ◌+◌, ◌*◌, ◌/◌, ◌≤◌, ◌<◌}
 use native.Mathlib.Numerals.{add-one}
 use native.Mathlib.Omega.{arith}
 use lib.ListN.{length, drop, drop_of_length-le}
-use Rattle.rewriting.proofs.Basics.{and_right, Each, each_by}
+use Rattle.rewriting.proofs.Basics.{Each, each_by}
 use Rattle.records.specs.declared.Record.{Record}
 use Rattle.records.specs.Records.{a_record, record_at, all_records}
-use Rattle.records.specs.Rising.{rises, rising}
 use Rattle.records.proofs.Bytes.{drop_records, length_of_records}
 use Rattle.polynomials.specs.Polynomials.{Weight}
 use Rattle.certificates.specs.Encoding.{no_weight, weight_records}
 use Rattle.checker.specs.Working.{Fillable, WeightsAt}
-use Rattle.checker.proofs.Tables.{InTable}
+use Rattle.checker.proofs.Tables.{InTable, later_rise}
 
 pub fillable_small : {ws : List Weight} → Fillable ws → Each InTable ws
 fillable_small {ws} f = each_by no_weight ws (λ k h. (f.symbols_small k h, f.places_small k h))
 
 fillable_tail : {w : Weight} {ws : List Weight} → Fillable (w ∷ ws) → Fillable ws
-unfolding rising
 fillable_tail {w} {ws} f =
     record {
-      rise = tail_rises ws f.rise;
+      rise = later_rise w ws f.rise;
       symbols_small = λ k h. f.symbols_small (suc k) (omega arith);
       places_small = λ k h. f.places_small (suc k) (omega arith);
     }
-  where
-    tail_rises : (l : List Weight) → rising (λ x. x.symbol) (λ x. x.place) (w ∷ l) ≡ true → rising (λ x. x.symbol) (λ x. x.place) l ≡ true
-    tail_rises [] h = refl
-    tail_rises (y ∷ l) h = and_right (rises w.symbol w.place y.symbol y.place) _ h
 
 -- weights of which the first stands at record `at`, in the record `r`
 pub record GoesOn (cert : List ℕ) (at kind : ℕ) (r : Record) (ws : List Weight) : Type 0 where

@@ -1,8 +1,8 @@
 -- Filling cells of the table from weights that rise, and clearing them: each weight has a cell of its own, which no other has.
 use mathlib.Core.Path.{◌≡◌, refl, sym, ap, ◌∙◌}
-use mathlib.Core.Bool.{true, false, ◌&&◌, cond}
+use mathlib.Core.Bool.{Bool, true, false, ◌&&◌, cond}
 use mathlib.Core.Logic.{⊎_elim}
-use mathlib.Core.List.{List, [], ◌∷◌, ◌++◌}
+use mathlib.Core.List.{List, [], ◌∷◌, ◌++◌, append_assoc, append-nil}
 use Prim.Native.Nat.{ℕ, ◌+◌, ◌*◌, ◌≤◌, ◌<◌}
 use native.Mathlib.Decide.{ℕ_discrete}
 use native.Mathlib.Omega.{arith}
@@ -10,12 +10,12 @@ use lib.Dec.{ltb, eqb}
 use lib.ListN.{get_or, set, replicate, length-set, length-replicate, get_or-replicate}
 use lib.Seq.{get_or-set_same, get_or-set_other}
 use borrow.Author.Tests.{ltb-true, eqb-true, eq-eqb, ne_eqb}
-use Rattle.rewriting.proofs.Basics.{by_test, and_left, and_right, or_cases, Each, each_nil, each_cons, each_head, each_tail}
+use Rattle.rewriting.proofs.Basics.{by_test, and_left, and_right, or_cases, Each, each_nil, each_cons, each_head, each_tail, each_right}
 use Rattle.records.specs.Rising.{rises, rising}
 use Rattle.polynomials.specs.Polynomials.{Weight, weight}
 use Rattle.weights.specs.Table.{CellsAre, row, marked_row}
 use Rattle.records.specs.Order.{w_weight}
-use Rattle.checker.specs.Working.{own_base, other_base, OthersStay}
+use Rattle.checker.specs.Working.{own_base, other_base, OthersStay, put_all}
 
 -- a weight's cell, counted from where the cells begin
 abbrev pub entry : Weight → ℕ
@@ -47,6 +47,12 @@ entries_before (x ∷ y ∷ xs) w ys h small =
     let below = entries_rise x.symbol x.place y.symbol y.place (each_head small).1 (and_left first _ h) in
     let rest = entries_before (y ∷ xs) w ys (and_right first _ h) (each_tail small) in
     each_cons x (y ∷ xs) (omega (arith, each_head rest)) rest
+
+-- so do those after the first
+pub later_rise : (w : Weight) (ws : List Weight) → Rise (w ∷ ws) → Rise ws
+unfolding rising
+later_rise w [] h = refl
+later_rise w (y ∷ ws) h = and_right (rises w.symbol w.place y.symbol y.place) _ h
 
 -- WHAT THE WEIGHTS SAY with one more at the end
 
@@ -169,3 +175,29 @@ module _ (base : ℕ) (small_base : base ≤ 576) where
               rw (same_symbol, same_place)
               (get_or-set_same table (base + entry w) 0 0 (omega (arith, t.long, in_table.0, in_table.1)) ∙ sym (none_after w left rise small))
           go (no d) = get_or-set_other table (base + entry w) (base + (9 * f + i)) 0 0 (λ e. d (omega arith)) ∙ t.are f i h k ∙ first_other w left f i (λ e. d (sym e))
+
+-- ALL OF THEM, one after another
+
+module _ (base : ℕ) (small_base : base ≤ 576) where
+  pub all_filled : (ws done : List Weight) (table : List ℕ) → CellsAre base table done → Rise (done ++ ws) → Each InTable (done ++ ws) →
+      CellsAre base (put_all false base ws table) (done ++ ws)
+  unfolding put_all
+  all_filled [] done table t rise small = rw append-nil t
+  all_filled (w ∷ ws) done table t rise small =
+      let own : InTable w = each_head (each_right done (w ∷ ws) small) in
+      let e : (done ++ (w ∷ [])) ++ ws ≡ done ++ (w ∷ ws) = append_assoc done (w ∷ []) ws in
+      let more = all_filled ws (done ++ (w ∷ [])) (set table (base + entry w) w.value) (one_filled base small_base table done w ws t rise small own) (rw e rise) (rw e small) in
+      rw e at more
+
+  pub all_cleared : (ws : List Weight) (table : List ℕ) → CellsAre base table ws → Rise ws → Each InTable ws → CellsAre base (put_all true base ws table) []
+  unfolding put_all
+  all_cleared [] table t rise small = t
+  all_cleared (w ∷ ws) table t rise small =
+      all_cleared ws (set table (base + entry w) 0) (one_cleared base small_base table w ws t rise small) (later_rise w ws rise) (each_tail small)
+
+pub all_others : (kind : ℕ) (clears : Bool) (ws : List Weight) (table : List ℕ) → Each InTable ws → OthersStay kind table (put_all clears (own_base kind) ws table)
+unfolding put_all OthersStay
+all_others kind clears [] table small vs h = h
+all_others kind clears (w ∷ ws) table small vs h =
+    all_others kind clears ws (set table (own_base kind + entry w) (cond clears 0 w.value)) (each_tail small) vs
+    (others_stay kind table w.symbol w.place (cond clears 0 w.value) (each_head small).0 (each_head small).1 vs h)

@@ -9,12 +9,11 @@ use native.Mathlib.Omega.{arith}
 use lib.ListN.{length}
 use Rattle.rewriting.specs.Terms.{System, Rule}
 use Rattle.rewriting.specs.Pairs.{Pair}
-use Rattle.records.specs.declared.Answer.{Answer}
-use Rattle.records.specs.declared.Answer.TheVariants.{Refused}
+use Rattle.std.specs.Prelude.{Option, Result}
 use Rattle.records.specs.declared.Refusal.{Refusal}
 use Rattle.records.specs.declared.Refusal.TheVariants.{Heavy}
 use Rattle.records.specs.Outcomes.{refused, passed}
-use Rattle.records.specs.Answers.{answer_outcome}
+use Rattle.records.specs.Answers.{number_of, outcome_of}
 use Rattle.records.specs.Order.{m_marked}
 use Rattle.records.proofs.Outcomes.{not_passed}
 use Rattle.weights.specs.declared.Verdict.{Verdict}
@@ -64,7 +63,7 @@ chosen_is p w last next {cs} {t} is {v} e =
     ∙ by_tests (any (rule_over w) p.rules) (any (rule_rises w) p.rules) last next is.over_is is.rises_is is.stays_is is.falls_is
 
 -- a refusal's number is not 0
-pub refused_not : (next : ℕ) {n : ℕ} (x : Refusal) {C : Type 0} → answer_outcome (Refused x) ≡ answered next n → n ≡ 0 → C
+pub refused_not : (next : ℕ) {n : ℕ} (x : Refusal) {C : Type 0} → refused (number_of x) ≡ answered next n → n ≡ 0 → C
 unfolding answered
 refused_not next x e z = not_passed {x = next} (e ∙ rw z)
 
@@ -117,7 +116,7 @@ rule_is_over false false h = h
 -- A WEIGHTING THAT IS TO BE JUDGED
 
 module _
-    {cert : List ℕ} {at count from before rules : ℕ} {ar ss ns table lefts : List ℕ} {turn : Turn}
+    {cert : List ℕ} {at count from : ℕ} {before : Option ℕ} {rules : ℕ} {ar ss ns table lefts : List ℕ} {turn : Turn}
     (a : TurnAsked cert at count from before rules ar ss ns table lefts turn) where
   abbrev p : System
   p = a.present_asked.pairs_asked.asked.kept.system
@@ -143,13 +142,13 @@ module _
 
     -- no rule is over, and the pairs were judged
     module _ {x : Verdict} (rules_are : x ≡ rules_verdict p w.weights w.marked) (none : is_over x ≡ false) {now after lefts_after : List ℕ} (held : TableIs now w.weights)
-        {r : Answer} (called : CallsJudged cert (at + 1) count middle rules ar ss ns now after lefts lefts_after turn x r) where
+        {r : Result ℕ Refusal} (called : CallsJudged cert (at + 1) count middle rules ar ss ns now after lefts lefts_after turn x r) where
       found : CallsAnswer p done w qs turn.first turn.last (middle + length w.marked) lefts_after x r
       found =
           called.answers a.present_asked w.weights w.marked marked_there held
           (arguments_within p w.weights w.marked qs a.present_asked.pairs_asked.are_pairs (none_over p w.weights w.marked rules_are none))
 
-      pub judged : answer_outcome r ≡ answered next (turn_refusal a)
+      pub judged : outcome_of r ≡ answered next (turn_refusal a)
       unfolding turn_refusal
       judged = rw passed at (found.outcome ∙ chosen_is p w turn.last (middle + length w.marked) found.is rules_are)
 
@@ -170,7 +169,7 @@ module _
         numbers_now = let t = tally_passed ok found.is in found.numbers t.0 t.1
 
   -- a rule is over
-  pub judged_over : {x : Verdict} → x ≡ rules_verdict p w.weights w.marked → is_over x ≡ true → answer_outcome (Refused Heavy) ≡ answered next (turn_refusal a)
+  pub judged_over : {x : Verdict} → x ≡ rules_verdict p w.weights w.marked → is_over x ≡ true → refused (number_of Heavy) ≡ answered next (turn_refusal a)
   unfolding turn_refusal weighting_refusal rules_verdict answered
   judged_over rules_are over =
       rw (rule_is_over (any (rule_over w) p.rules) (not (any (rule_rises w) p.rules)) (rw rules_are at over)) refl

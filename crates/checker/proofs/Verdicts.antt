@@ -2,14 +2,16 @@
 use mathlib.Core.Path.{◌≡◌, refl, sym, ◌∙◌}
 use mathlib.Core.Bool.{Bool, true, false, ◌&&◌, ◌||◌, not}
 use mathlib.Core.List.{List, [], ◌∷◌}
+use denote.Enum.Bare.{sameb}
 use Rattle.rewriting.specs.Terms.{System, Rule}
+use Rattle.weights.specs.contracts.Verdict.{the_type}
 use Rattle.weights.specs.declared.Verdict.{Verdict}
 use Rattle.weights.specs.declared.Verdict.TheVariants.{Over, Fails, Holds}
 use Rattle.polynomials.specs.Polynomials.{Weight, Weighting}
 use Rattle.polynomials.specs.Judging.{any, rule_over, rule_rises}
 use Rattle.weights.specs.Working.{verdict}
 use Rattle.weights.proofs.Working.{verdict_over, verdict_fails, verdict_holds}
-use Rattle.checker.specs.Working.{is_over, rules_over, rules_verdict}
+use Rattle.checker.specs.Working.{is_over, fails, rules_over, rules_verdict}
 
 -- ONE AFTER ANOTHER
 
@@ -73,6 +75,19 @@ module _ (w : Weighting) where
       neither : (a b : Bool) → not (a || b) ≡ (not a && not b)
       neither true b = refl
       neither false b = refl
+
+-- the tests for the two verdicts that refuse
+pub over_told : (v : Verdict) (b : Bool) → b ≡ sameb the_type v Over → is_over v ≡ b
+unfolding is_over
+over_told Over b h = sym h
+over_told Fails b h = sym h
+over_told Holds b h = sym h
+
+pub fails_told : (v : Verdict) (b : Bool) → b ≡ sameb the_type v Fails → fails v ≡ b
+unfolding fails
+fails_told Over b h = sym h
+fails_told Fails b h = sym h
+fails_told Holds b h = sym h
 
 -- no rule is over where the verdict on them is not
 not_over : (passes holds : Bool) → is_over (verdict passes holds) ≡ false → passes ≡ false

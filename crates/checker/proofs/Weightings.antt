@@ -8,11 +8,10 @@ use lib.Dec.{eqb}
 use lib.ListN.{length, length-append}
 use borrow.Author.Tests.{eq-eqb, ne_eqb, eqb-true}
 use Rattle.rewriting.specs.Terms.{System}
-use Rattle.records.specs.declared.Answer.{Answer}
-use Rattle.records.specs.declared.Answer.TheVariants.{Passed, Refused}
+use Rattle.std.specs.Prelude.{Option, Some, Result, Ok, Err}
 use Rattle.records.specs.declared.Refusal.{Refusal}
 use Rattle.records.specs.Outcomes.{refused, passed}
-use Rattle.records.specs.Answers.{number_of, answer_outcome}
+use Rattle.records.specs.Answers.{number_of, outcome_of}
 use Rattle.polynomials.specs.Polynomials.{Weighting}
 use Rattle.polynomials.specs.Judging.{Call, is_none, weightings_refusal}
 use Rattle.certificates.specs.Components.{Component}
@@ -43,14 +42,14 @@ answer_passed true m n k e = (refl, cc)
 answer_passed false m n k e = let z : ◌≡◌ {A = ℕ} 0 1 = cc in absurd (omega arith)
 
 -- of a component that was refused nothing more is asked
-pub refused_untold : (p : System) (c : Component) (at : ℕ) (x : Refusal) → ComponentJudged p c at (Refused x) → {C : Type 0} →
+pub refused_untold : (p : System) (c : Component) (at : ℕ) (x : Refusal) → ComponentJudged p c at (Err x) → {C : Type 0} →
     component_refusal p (plain p) c ≡ 0 → C
 unfolding ComponentJudged
 refused_untold p c at x judged accepted = refused_not (at + record_count c) x judged accepted
 
 -- BEFORE A TURN
 
-module _ {cert : List ℕ} {at count weightings first before rules : ℕ} {ar ss ns table lefts : List ℕ}
+module _ {cert : List ℕ} {at count weightings first : ℕ} {before : Option ℕ} {rules : ℕ} {ar ss ns table lefts : List ℕ}
     (a : WeightedAsked cert at count weightings first before rules ar ss ns table lefts) where
   abbrev p : System
   p = a.asked.kept.system
@@ -64,7 +63,7 @@ module _ {cert : List ℕ} {at count weightings first before rules : ℕ} {ar ss
   abbrev number : ℕ
   number = component_refusal p (plain p) c
 
-  pub record SoFar (n from weights : ℕ) (now numbers : List ℕ) : Type 0 where
+  pub record SoFar (n from : ℕ) (weights : Option ℕ) (now numbers : List ℕ) : Type 0 where
     pub done : List Weighting
     pub rest : List Weighting
     pub split : c.weightings ≡ done ++ rest
@@ -73,11 +72,11 @@ module _ {cert : List ℕ} {at count weightings first before rules : ℕ} {ar ss
     pub tell : NumbersTell p done c.pairs first numbers
     pub stands : from ≡ weights_from at c done
     pub known : RulesUnder p cert weights now
-    pub behind : weights < from
+    pub behind : (b : ℕ) → weights ≡ Some b → b < from
     pub after_pairs : at + count < from
 
   -- the records so far are among the certificate's
-  pub from_small : {n from weights : ℕ} {now numbers : List ℕ} → SoFar n from weights now numbers → from ≤ length cert / 8 + 1
+  pub from_small : {n from : ℕ} {weights : Option ℕ} {now numbers : List ℕ} → SoFar n from weights now numbers → from ≤ length cert / 8 + 1
   from_small s = rw s.stands (weights_from_within a.there.stands s.done s.rest s.split)
 
   -- at first
@@ -97,12 +96,12 @@ module _ {cert : List ℕ} {at count weightings first before rules : ℕ} {ar ss
         tell = a.all_present;
         stands = omega (arith, a.counted, weights_from_first at c);
         known = a.known.under;
-        behind = omega (arith, a.known.behind);
+        behind = λ b e. omega (arith, a.known.behind b e);
         after_pairs = omega arith;
       }
 
   -- A TURN: the weighting that comes next
-  module _ {n from weights : ℕ} {now numbers : List ℕ} (s : SoFar n from weights now numbers) (more : n < weightings)
+  module _ {n from : ℕ} {weights : Option ℕ} {now numbers : List ℕ} (s : SoFar n from weights now numbers) (more : n < weightings)
       (unmarked : MarkedIs now []) where
     left_over : (rest : List Weighting) → s.rest ≡ rest → (w : Weighting) × (ws : List Weighting) × (s.rest ≡ w ∷ ws)
     left_over [] e =
@@ -180,28 +179,28 @@ module _ {cert : List ℕ} {at count weightings first before rules : ℕ} {ar ss
             ∙ weightings_first p.rules w ws (present s.done cs)
             ∙ ap (λ (ds : List Call). cond (eqb turn_number 0) (weightings_refusal p.rules ws ds) turn_number) (present_snoc s.done w cs)
 
-        module _ {after numbers' : List ℕ} {r : Answer} (judged : TurnJudged cert at count from weights rules ar ss ns now after numbers numbers' turn r) where
-          outcome : answer_outcome r ≡ answered (from + length w.weights + length w.marked) turn_number
+        module _ {after numbers' : List ℕ} {r : Result ℕ Refusal} (judged : TurnJudged cert at count from weights rules ar ss ns now after numbers numbers' turn r) where
+          outcome : outcome_of r ≡ answered (from + length w.weights + length w.marked) turn_number
           outcome = judged.judged asked ∙ ap (answered (from + length w.weights + length w.marked)) number_there
 
           -- it is refused: so is the component, with this number
-          pub refuses : (x : Refusal) → r ≡ Refused x → ComponentJudged p c at (Refused x)
+          pub refuses : (x : Refusal) → r ≡ Err x → ComponentJudged p c at (Err x)
           unfolding ComponentJudged answered
           refuses x e =
-              let found = answer_refused (eqb turn_number 0) _ turn_number (number_of x) (ap answer_outcome (sym e) ∙ outcome) in
+              let found = answer_refused (eqb turn_number 0) _ turn_number (number_of x) (ap outcome_of (sym e) ∙ outcome) in
               let same : number ≡ turn_number = number_first ∙ rw found.0 in
               rw (same, found.0) (ap refused found.1)
 
           -- it has passed
-          module _ (next : ℕ) (e : r ≡ Passed next) where
+          module _ (next : ℕ) (e : r ≡ Ok next) where
             found : (eqb turn_number 0 ≡ true) × (next ≡ from + length w.weights + length w.marked)
             unfolding answered
-            found = answer_passed (eqb turn_number 0) _ turn_number next (ap answer_outcome (sym e) ∙ outcome)
+            found = answer_passed (eqb turn_number 0) _ turn_number next (ap outcome_of (sym e) ∙ outcome)
 
             none_refused : turn_refusal asked ≡ 0
             none_refused = number_there ∙ eqb-true turn_number 0 found.0
 
-            pub goes_on : SoFar (n + 1) (next + 1) from after numbers'
+            pub goes_on : SoFar (n + 1) (next + 1) (Some from) after numbers'
             goes_on =
                 record {
                   done = s.done ++ (w ∷ []);
@@ -212,13 +211,13 @@ module _ {cert : List ℕ} {at count weightings first before rules : ℕ} {ar ss
                   tell = subst (λ (m : ℕ). NumbersTell p (s.done ++ (w ∷ [])) c.pairs m numbers') first_is (judged.numbers asked none_refused);
                   stands = omega (arith, found.1, s.stands, weighting_next at c s.done w);
                   known =
-                      record { none = λ e. absurd (let b = s.behind in omega arith); some = λ h. judged.known asked none_refused };
-                  behind = omega (arith, found.1);
+                      record { none = λ e. cc; some = λ b e. let same : from ≡ b = cc in rw (← same) (judged.known asked none_refused) };
+                  behind = λ b e. let same : from ≡ b = cc in omega (arith, found.1);
                   after_pairs = omega (arith, found.1, s.after_pairs);
                 }
 
   -- AT THE END no weighting is left
-  module _ {n from weights : ℕ} {now numbers : List ℕ} (s : SoFar n from weights now numbers) (all : weightings ≤ n) where
+  module _ {n from : ℕ} {weights : Option ℕ} {now numbers : List ℕ} (s : SoFar n from weights now numbers) (all : weightings ≤ n) where
     none_left : s.rest ≡ []
     none_left = by s.rest (ap length s.split ∙ length-append s.done s.rest)
       where
@@ -236,13 +235,13 @@ module _ {cert : List ℕ} {at count weightings first before rules : ℕ} {ar ss
     ends : from ≡ at + record_count c + 1
     ends = s.stands ∙ ap (weights_from at c) (sym done_all) ∙ weights_from_end at c (omega (arith, a.weightings_are, a.some))
 
-    pub passes : (next : ℕ) → next + 1 ≡ from → ComponentJudged p c at (Passed next)
+    pub passes : (next : ℕ) → next + 1 ≡ from → ComponentJudged p c at (Ok next)
     unfolding ComponentJudged answered
     passes next e = let here : next ≡ at + record_count c = omega (arith, ends) in rw (accepted) (ap passed here)
 
     pub knows : KnownAfter p c cert at weights now
     unfolding KnownAfter
-    knows h = record { behind = omega (arith, ends, s.behind); under = s.known }
+    knows h = record { behind = λ b e. omega (arith, ends, s.behind b e); under = s.known }
 
     pub numbers_tell : NumbersTell p c.weightings c.pairs first numbers
     numbers_tell = subst (λ (us : List Weighting). NumbersTell p us c.pairs first numbers) (sym done_all) s.tell

@@ -1,16 +1,16 @@
 -- How the code judges the components: by a table of weights. The contracts between our own functions speak of it; no
 -- promise to a user does.
-use Rattle.std.specs.Prelude.{◌≡◌, Bool, true, false, ◌&&◌, ◌||◌, not, cond, List, [], ◌∷◌, ◌++◌, map, ℕ, suc, ◌+◌, ◌*◌, ◌≤◌, ◌<◌, ltb, eqb, length, get_or, drop}
+use Rattle.std.specs.Prelude.{◌≡◌, Bool, true, false, ◌&&◌, ◌||◌, not, cond, List, [], ◌∷◌, ◌++◌, map, ℕ, suc, ◌+◌, ◌*◌, ◌≤◌, ◌<◌, ltb, eqb, length, get_or, set, drop, Option, None, Some, Result, Ok, Err}
 use Rattle.rewriting.specs.Terms.{System, Rule}
 use Rattle.rewriting.specs.Pairs.{Pair, arguments, pair_left, pair_right}
 use Rattle.records.specs.declared.Record.{Record}
-use Rattle.records.specs.declared.Answer.{Answer}
+use Rattle.records.specs.declared.Refusal.{Refusal}
 use Rattle.records.specs.Outcomes.{Outcome, refused, passed, refusal}
 use Rattle.records.specs.Order.{w_weight, m_marked}
 use Rattle.records.specs.Files.{Whole}
 use Rattle.records.specs.Records.{record_at, all_records}
 use Rattle.records.specs.Rising.{rising}
-use Rattle.records.specs.Answers.{answer_outcome}
+use Rattle.records.specs.Answers.{outcome_of}
 use Rattle.pair_finder.specs.Walking.{SystemKept}
 use Rattle.pairs.specs.Listing.{a_pair, pair_records}
 use Rattle.polynomials.specs.Polynomials.{Weight, Weighting}
@@ -31,14 +31,13 @@ use Rattle.judging.specs.Judge.{all_pairs, call, calls, component_refusal, compo
 use Rattle.entries.specs.declared.Entry.{Entry}
 use Rattle.entries.specs.declared.Store.{Store}
 use Rattle.entries.specs.Entries.{none}
-use Rattle.checker.specs.declared.Judged.{Judged}
 use Rattle.checker.specs.declared.weighing.Tally.{Tally}
 use Rattle.checker.specs.declared.component.Turn.{Turn}
 use Rattle.checker.specs.declared.component.Found.{Found}
 
 -- what judging answers: the number, 0 for none
-unfoldable pub JudgedAs : (number : ℕ) → Answer → Type 0
-JudgedAs n r = refusal (answer_outcome r) ≡ n
+unfoldable pub JudgedAs : {A : Type 0} → (number : ℕ) → Result A Refusal → Type 0
+JudgedAs n r = refusal (outcome_of r) ≡ n
 
 -- THE RECORDS OF A COMPONENT stand from a record on
 pub record ComponentAt (certificate : List ℕ) (at : ℕ) (c : Component) : Type 0 where
@@ -55,9 +54,14 @@ unfoldable pub answered : (next number : ℕ) → Outcome ℕ
 answered next n = cond (eqb n 0) (passed next) (refused n)
 
 -- what judging a component answers: the record after it, or its refusal
-unfoldable pub ComponentJudged : System → Component → (at : ℕ) → Answer → Type 0
+unfoldable pub ComponentJudged : System → Component → (at : ℕ) → Result ℕ Refusal → Type 0
 ComponentJudged p c at r =
-    answer_outcome r ≡ answered (at + record_count c) (component_refusal p (plain p) c)
+    outcome_of r ≡ answered (at + record_count c) (component_refusal p (plain p) c)
+
+-- that record, of what a component came to
+abbrev pub next_of : Result Found Refusal → Result ℕ Refusal
+next_of (Ok f) = Ok f.next
+next_of (Err x) = Err x
 
 -- weights that can be written: rising, each at a place of the table
 pub record Fillable (ws : List Weight) : Type 0 where
@@ -183,18 +187,18 @@ pub record WeightsHeld (p : System) (certificate : List ℕ) (before : ℕ) (tab
   pub held : WeightsIn certificate before table
   pub hold : (marked : List Weight) → Holds ≡ rules_verdict p held.weights marked
 
--- what is known of the rules: `before` is where the last weights begin, 0 where there were none
-pub record RulesUnder (p : System) (certificate : List ℕ) (before : ℕ) (table : List ℕ) : Type 0 where
-  pub none : before ≡ 0 → TableIs table []
-  pub some : 0 < before → WeightsHeld p certificate before table
+-- what is known of the rules: `before` is where the last weights begin, if there were any
+pub record RulesUnder (p : System) (certificate : List ℕ) (before : Option ℕ) (table : List ℕ) : Type 0 where
+  pub none : before ≡ None → TableIs table []
+  pub some : (b : ℕ) → before ≡ Some b → WeightsHeld p certificate b table
 
 -- the same when the components up to record `at` have passed
-pub record RulesKnown (p : System) (certificate : List ℕ) (at before : ℕ) (table : List ℕ) : Type 0 where
-  pub behind : before ≤ at
+pub record RulesKnown (p : System) (certificate : List ℕ) (at : ℕ) (before : Option ℕ) (table : List ℕ) : Type 0 where
+  pub behind : (b : ℕ) → before ≡ Some b → b ≤ at
   pub under : RulesUnder p certificate before table
 
 -- what is known once this component has passed, where the last weights then begin at record `weights`
-unfoldable pub KnownAfter : System → Component → (certificate : List ℕ) → (at weights : ℕ) → (table : List ℕ) → Type 0
+unfoldable pub KnownAfter : System → Component → (certificate : List ℕ) → (at : ℕ) → (weights : Option ℕ) → (table : List ℕ) → Type 0
 KnownAfter p c certificate at weights table =
     component_refusal p (plain p) c ≡ 0 → RulesKnown p certificate (at + record_count c) weights table
 
@@ -222,7 +226,22 @@ pub record StoreTells (p : System) (cs : List Component) (s : Store) : Type 0 wh
   pub counted : s.count ≡ length (all_pairs cs)
   pub are : (k : ℕ) → k < length (all_pairs cs) → get_or s.entries k none ≡ get_or (told_entries p 0 cs) k none
 
+-- the values of weights in their cells, which begin at `base`, or 0 there if they are cleared
+unfoldable pub put_all : (clears : Bool) → (base : ℕ) → List Weight → (table : List ℕ) → List ℕ
+put_all clears base [] table = table
+put_all clears base (w ∷ ws) table = put_all clears base ws (set table (base + (9 * w.symbol + w.place)) (cond clears 0 w.value))
+
 -- THE CONTRACTS: what each function is asked, and what it answers for all that it may have been asked
+
+-- some weight records of a kind stand from record `from` on
+pub record Standing (certificate : List ℕ) (from kind : ℕ) : Type 0 where
+  pub weights : List Weight
+  pub stand : WeightsAt certificate from kind weights
+
+-- their values are in their cells, or 0
+pub record PutAll (clears : Bool) (certificate : List ℕ) (from kind : ℕ) (before after : List ℕ) (r : ℕ) : Type 0 where
+  pub ends : (ws : List Weight) → WeightsAt certificate from kind ws → r ≡ from + length ws
+  pub are : (ws : List Weight) → WeightsAt certificate from kind ws → after ≡ put_all clears (own_base kind) ws before
 
 -- weight records of a kind are to be put into cells that hold nothing
 pub record FillAsked (certificate : List ℕ) (from kind : ℕ) (table : List ℕ) : Type 0 where
@@ -248,16 +267,15 @@ pub record Cleared (kind : ℕ) (before after : List ℕ) : Type 0 where
 
 -- the W records at `before` and those at `from`, which end before record `after`, say the same
 pub record WeightsAgree (certificate : List ℕ) (before from after : ℕ) : Type 0 where
-  pub earlier : 0 < before
   pub agree : (vs ws : List Weight) → WeightsAt certificate before w_weight vs → WeightsAt certificate from w_weight ws → SameWeights vs ws from after
 
 -- the weights at `from` are to take the place of those at `before`, or of none
-pub record RefillAsked (certificate : List ℕ) (before from : ℕ) (table : List ℕ) : Type 0 where
+pub record RefillAsked (certificate : List ℕ) (before : Option ℕ) (from : ℕ) (table : List ℕ) : Type 0 where
   pub file : Whole most_certificate_bytes certificate
   pub weights : List Weight
   pub stand : WeightsAt certificate from w_weight weights
-  pub none : before ≡ 0 → TableIs table []
-  pub some : 0 < before → WeightsIn certificate before table
+  pub none : before ≡ None → TableIs table []
+  pub some : (b : ℕ) → before ≡ Some b → WeightsIn certificate b table
 
 pub record Refilled (certificate : List ℕ) (from : ℕ) (before after : List ℕ) (r : ℕ) : Type 0 where
   pub ends : (ws : List Weight) → WeightsAt certificate from w_weight ws → r ≡ from + length ws
@@ -309,13 +327,13 @@ pub record CallsAsked (certificate : List ℕ) (from count middle rules : ℕ) (
   pub marked_stand : WeightsAt certificate middle m_marked marked
 
 -- the answer is what the rules and some tally of the calls present come to; and if none is over and none rises, the numbers tell who left
-pub record CallsAnswer (p : System) (done : List Weighting) (w : Weighting) (qs : List Pair) (first : ℕ) (last : Bool) (next : ℕ) (after : List ℕ) (rules_found : Verdict) (r : Answer) : Type 0 where
+pub record CallsAnswer (p : System) (done : List Weighting) (w : Weighting) (qs : List Pair) (first : ℕ) (last : Bool) (next : ℕ) (after : List ℕ) (rules_found : Verdict) (r : Result ℕ Refusal) : Type 0 where
   pub tally : Tally
   pub is : TallyIs w (present done (calls p qs)) tally
-  pub outcome : answer_outcome r ≡ chosen rules_found tally last next
+  pub outcome : outcome_of r ≡ chosen rules_found tally last next
   pub numbers : tally.over ≡ false → tally.rises ≡ false → NumbersTell p (done ++ (w ∷ [])) qs first after
 
-pub record CallsJudged (certificate : List ℕ) (from count middle rules : ℕ) (arities starts nodes before after lefts lefts_after : List ℕ) (turn : Turn) (rules_found : Verdict) (r : Answer) : Type 0 where
+pub record CallsJudged (certificate : List ℕ) (from count middle rules : ℕ) (arities starts nodes before after lefts lefts_after : List ℕ) (turn : Turn) (rules_found : Verdict) (r : Result ℕ Refusal) : Type 0 where
   pub unmarked : MarkedIs after []
   pub weights_stay : (ws : List Weight) → TableIs before ws → TableIs after ws
   pub others : OthersAsBefore turn.first (turn.first + count) lefts lefts_after
@@ -330,27 +348,27 @@ pub record WeightingAt (certificate : List ℕ) (from : ℕ) (w : Weighting) : T
   pub marked_stand : WeightsAt certificate (from + length w.weights) m_marked w.marked
 
 -- a weighting of the component at record `at` is to be judged over the pairs present; the table is as the weightings before have left it
-pub record TurnAsked (certificate : List ℕ) (at count from before rules : ℕ) (arities starts nodes table lefts : List ℕ) (turn : Turn) : Type 0 where
+pub record TurnAsked (certificate : List ℕ) (at count from : ℕ) (before : Option ℕ) (rules : ℕ) (arities starts nodes table lefts : List ℕ) (turn : Turn) : Type 0 where
   pub present_asked : PresentAsked certificate (at + 1) count turn.first turn.number rules arities starts nodes lefts
   pub weighting : Weighting
   pub stands : WeightingAt certificate from weighting
   pub after_pairs : at + count < from
   pub unmarked : MarkedIs table []
-  pub behind : before < from
+  pub behind : (b : ℕ) → before ≡ Some b → b < from
   pub known : RulesUnder present_asked.pairs_asked.asked.kept.system certificate before table
 
 -- its number
-unfoldable pub turn_refusal : {certificate : List ℕ} {at count from before rules : ℕ} {arities starts nodes table lefts : List ℕ} {turn : Turn} →
+unfoldable pub turn_refusal : {certificate : List ℕ} {at count from : ℕ} {before : Option ℕ} {rules : ℕ} {arities starts nodes table lefts : List ℕ} {turn : Turn} →
     TurnAsked certificate at count from before rules arities starts nodes table lefts turn → ℕ
 turn_refusal {turn = turn} a =
     let p = a.present_asked.pairs_asked.asked.kept.system in
     weighting_refusal p.rules a.weighting turn.last (present a.present_asked.done (calls p a.present_asked.pairs_asked.pairs))
 
-pub record TurnJudged (certificate : List ℕ) (at count from before rules : ℕ) (arities starts nodes table after lefts lefts_after : List ℕ) (turn : Turn) (r : Answer) : Type 0 where
+pub record TurnJudged (certificate : List ℕ) (at count from : ℕ) (before : Option ℕ) (rules : ℕ) (arities starts nodes table after lefts lefts_after : List ℕ) (turn : Turn) (r : Result ℕ Refusal) : Type 0 where
   pub unmarked : MarkedIs after []
   pub others : OthersAsBefore turn.first (turn.first + count) lefts lefts_after
   pub judged : (a : TurnAsked certificate at count from before rules arities starts nodes table lefts turn) →
-      answer_outcome r ≡ answered (from + length a.weighting.weights + length a.weighting.marked) (turn_refusal a)
+      outcome_of r ≡ answered (from + length a.weighting.weights + length a.weighting.marked) (turn_refusal a)
   pub known : (a : TurnAsked certificate at count from before rules arities starts nodes table lefts turn) → turn_refusal a ≡ 0 →
       WeightsHeld a.present_asked.pairs_asked.asked.kept.system certificate from after
   pub numbers : (a : TurnAsked certificate at count from before rules arities starts nodes table lefts turn) → turn_refusal a ≡ 0 →
@@ -370,7 +388,7 @@ pub record UnweightedAsked (certificate : List ℕ) (at rules : ℕ) (arities st
   pub none : length there.component.weightings ≡ 0
 
 -- with one or more, where the table is as the components before have left it, and none of its pairs has left
-pub record WeightedAsked (certificate : List ℕ) (at count weightings first before rules : ℕ) (arities starts nodes table lefts : List ℕ) : Type 0 where
+pub record WeightedAsked (certificate : List ℕ) (at count weightings first : ℕ) (before : Option ℕ) (rules : ℕ) (arities starts nodes table lefts : List ℕ) : Type 0 where
   pub there : ComponentThere certificate at
   pub asked : RulesAsked rules arities starts nodes
   pub fits : ComponentFits asked.kept.system there.component
@@ -381,19 +399,19 @@ pub record WeightedAsked (certificate : List ℕ) (at count weightings first bef
   pub some : 1 ≤ weightings
   pub all_present : NumbersTell asked.kept.system [] there.component.pairs first lefts
 
-pub record WeightedJudged (certificate : List ℕ) (at count weightings first before rules : ℕ) (arities starts nodes table after lefts lefts_after : List ℕ) (r : Found) : Type 0 where
+pub record WeightedJudged (certificate : List ℕ) (at count weightings first : ℕ) (before : Option ℕ) (rules : ℕ) (arities starts nodes table after lefts lefts_after : List ℕ) (r : Result Found Refusal) : Type 0 where
   pub unmarked : MarkedIs after []
   pub others : OthersAsBefore first (first + count) lefts lefts_after
   pub judged : (a : WeightedAsked certificate at count weightings first before rules arities starts nodes table lefts) →
-      ComponentJudged a.asked.kept.system a.there.component at r.answer
-  pub known : (a : WeightedAsked certificate at count weightings first before rules arities starts nodes table lefts) →
-      KnownAfter a.asked.kept.system a.there.component certificate at r.weights after
+      ComponentJudged a.asked.kept.system a.there.component at (next_of r)
+  pub known : (a : WeightedAsked certificate at count weightings first before rules arities starts nodes table lefts) (f : Found) → r ≡ Ok f →
+      KnownAfter a.asked.kept.system a.there.component certificate at f.weights after
   pub numbers : (a : WeightedAsked certificate at count weightings first before rules arities starts nodes table lefts) →
       component_refusal a.asked.kept.system (plain a.asked.kept.system) a.there.component ≡ 0 →
       NumbersTell a.asked.kept.system a.there.component.weightings a.there.component.pairs first lefts_after
 
 -- with any number
-pub record ComponentAsked (certificate : List ℕ) (at : ℕ) (header : Record) (first before rules : ℕ) (arities starts nodes flags table lefts : List ℕ) : Type 0 where
+pub record ComponentAsked (certificate : List ℕ) (at : ℕ) (header : Record) (first : ℕ) (before : Option ℕ) (rules : ℕ) (arities starts nodes flags table lefts : List ℕ) : Type 0 where
   pub there : ComponentThere certificate at
   pub read : header ≡ record_at certificate (8 * at)
   pub kept : SystemKept rules arities starts nodes flags
@@ -402,14 +420,14 @@ pub record ComponentAsked (certificate : List ℕ) (at : ℕ) (header : Record) 
   pub known : RulesKnown kept.system certificate at before table
   pub all_present : NumbersTell kept.system [] there.component.pairs first lefts
 
-pub record ComponentAnswered (certificate : List ℕ) (at : ℕ) (header : Record) (first before rules : ℕ) (arities starts nodes flags table after lefts lefts_after : List ℕ) (r : Found) : Type 0 where
+pub record ComponentAnswered (certificate : List ℕ) (at : ℕ) (header : Record) (first : ℕ) (before : Option ℕ) (rules : ℕ) (arities starts nodes flags table after lefts lefts_after : List ℕ) (r : Result Found Refusal) : Type 0 where
   pub unmarked : MarkedIs after []
   pub others : (a : ComponentAsked certificate at header first before rules arities starts nodes flags table lefts) →
       OthersAsBefore first (first + length a.there.component.pairs) lefts lefts_after
   pub judged : (a : ComponentAsked certificate at header first before rules arities starts nodes flags table lefts) →
-      ComponentJudged a.kept.system a.there.component at r.answer
-  pub known : (a : ComponentAsked certificate at header first before rules arities starts nodes flags table lefts) →
-      KnownAfter a.kept.system a.there.component certificate at r.weights after
+      ComponentJudged a.kept.system a.there.component at (next_of r)
+  pub known : (a : ComponentAsked certificate at header first before rules arities starts nodes flags table lefts) (f : Found) → r ≡ Ok f →
+      KnownAfter a.kept.system a.there.component certificate at f.weights after
   pub numbers : (a : ComponentAsked certificate at header first before rules arities starts nodes flags table lefts) →
       component_refusal a.kept.system (plain a.kept.system) a.there.component ≡ 0 →
       NumbersTell a.kept.system a.there.component.weightings a.there.component.pairs first lefts_after
@@ -427,13 +445,13 @@ pub record ComponentsAsked (certificate : List ℕ) (components rules : ℕ) (ar
   pub all_present : (k : ℕ) → get_or lefts k 0 ≡ 0
 
 -- the first refusal; where there is none, the numbers tell under which weighting each pair left
-pub record ComponentsJudged (certificate : List ℕ) (components rules : ℕ) (arities starts nodes flags lefts lefts_after : List ℕ) (r : Answer) : Type 0 where
+pub record ComponentsJudged (certificate : List ℕ) (components rules : ℕ) (arities starts nodes flags lefts lefts_after : List ℕ) (r : Result (Unit {0}) Refusal) : Type 0 where
   pub judged : (a : ComponentsAsked certificate components rules arities starts nodes flags lefts) →
-      refusal (answer_outcome r) ≡ components_refusal a.kept.system (plain a.kept.system) a.all
+      refusal (outcome_of r) ≡ components_refusal a.kept.system (plain a.kept.system) a.all
   pub numbers : (a : ComponentsAsked certificate components rules arities starts nodes flags lefts) →
       components_refusal a.kept.system (plain a.kept.system) a.all ≡ 0 → AllTold a.kept.system a.all lefts_after
 
--- what the whole judging answers: the number of all, and where it is 0 the entries tell
-pub record AllJudged (p : System) (cs : List Component) (r : Judged) : Type 0 where
-  pub numbered : JudgedAs (judged p (plain p) cs) r.answer
-  pub told : judged p (plain p) cs ≡ 0 → StoreTells p cs r.store
+-- what the whole judging answers: the number of all, or entries that tell
+pub record AllJudged (p : System) (cs : List Component) (r : Result Store Refusal) : Type 0 where
+  pub numbered : JudgedAs (judged p (plain p) cs) r
+  pub told : (s : Store) → r ≡ Ok s → StoreTells p cs s

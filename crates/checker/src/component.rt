@@ -1,10 +1,10 @@
 // Each component in turn: 10, or weighting by weighting 11, 12, 13, 17.
 ghost use Rattle.std.specs.Prelude.{◌≡◌};
-ghost use Rattle.records.specs.Answers.{answer_outcome};
-ghost use Rattle.checker.specs.Working.{is_over, fails, chosen, ComponentJudged, RefillAsked, Refilled, CallsAsked, CallsJudged, UnweightedAsked, TurnAsked, TurnJudged, WeightedAsked, WeightedJudged, ComponentAsked, ComponentAnswered, ComponentsAsked, ComponentsJudged};
+ghost use Rattle.records.specs.Answers.{outcome_of};
+ghost use Rattle.checker.specs.Working.{chosen, ComponentJudged, RefillAsked, Refilled, CallsAsked, CallsJudged, UnweightedAsked, TurnAsked, TurnJudged, WeightedAsked, WeightedJudged, ComponentAsked, ComponentAnswered, ComponentsAsked, ComponentsJudged};
 
 use crate::weighing::Tally;
-use records::{Answer, MOST_PAIRS, Record, Refusal};
+use records::{MOST_PAIRS, Record, Refusal};
 use terms::{MOST_SYMBOLS, NODES_ROOM};
 use weights::Verdict;
 use weights::table::CELLS;
@@ -18,74 +18,44 @@ pub struct Turn {
     pub first: usize,
 }
 
-// What a component came to: the record after it or a refusal, and, where it passed, where the W records begin whose weights the table
-// then holds, or 0 for none.
+// What a component that passed came to: the record after it, and where the W records begin whose weights the table then holds, if it
+// holds any.
 #[derive(Clone, Copy)]
 pub struct Found {
-    pub answer: Answer,
-    pub weights: usize,
+    pub next: usize,
+    pub weights: Option<usize>,
 }
 
 // The first in document 02's order: 11 for either, 12 for the rules, 13 for a pair that rises or remains after the last weighting, 17
 // where no pair leaves.
-fn choose(rules: Verdict, pairs: Tally, last: bool, next: usize) -> Answer
-    ensures { answer_outcome result ≡ chosen rules pairs last next }
+fn choose(rules: Verdict, pairs: Tally, last: bool, next: usize) -> Result<usize, Refusal>
+    ensures { outcome_of result ≡ chosen rules pairs last next }
 {
-    if is_over(rules) {
-        return Answer::Refused(Refusal::Heavy);
+    if rules == Verdict::Over || pairs.over {
+        return Err(Refusal::Heavy);
     }
-    if pairs.over {
-        return Answer::Refused(Refusal::Heavy);
+    if rules == Verdict::Fails {
+        return Err(Refusal::RuleRises);
     }
-    if fails(rules) {
-        return Answer::Refused(Refusal::RuleRises);
+    if pairs.rises || last && pairs.stays {
+        return Err(Refusal::PairStays);
     }
-    if pairs.rises {
-        return Answer::Refused(Refusal::PairStays);
+    if !pairs.falls {
+        return Err(Refusal::NoneLeaves);
     }
-    if last {
-        if pairs.stays {
-            return Answer::Refused(Refusal::PairStays);
-        }
-    }
-    if pairs.falls {
-        return Answer::Passed(next);
-    }
-    Answer::Refused(Refusal::NoneLeaves)
+    Ok(next)
 }
 
-// Puts the W records from record `from` on into the table, in place of those from record `before` on. Answers the record after them.
-fn refill(certificate: &[u8], before: usize, from: usize, table: &mut [u16; CELLS]) -> usize
+// Puts the W records from record `from` on into the table, in place of those from record `before` on, if it holds any. Answers the
+// record after them.
+fn refill(certificate: &[u8], before: Option<usize>, from: usize, table: &mut [u16; CELLS]) -> usize
     requires { RefillAsked certificate.now before from table.old }
     ensures { Refilled certificate.now from table.old table.new result }
 {
-    if before == 0 {
-        return crate::weighing::fill(certificate, from, b'W', table);
+    if let Some(before) = before {
+        crate::weighing::clear(certificate, before, b'W', table);
     }
-    crate::weighing::clear(certificate, before, b'W', table);
     crate::weighing::fill(certificate, from, b'W', table)
-}
-
-// Whether a verdict is that the limit was passed.
-fn is_over(v: Verdict) -> bool
-    ensures { result ≡ is_over v }
-{
-    match v {
-        Verdict::Over => true,
-        Verdict::Fails => false,
-        Verdict::Holds => false,
-    }
-}
-
-// Whether it is that a rule rises.
-fn fails(v: Verdict) -> bool
-    ensures { result ≡ fails v }
-{
-    match v {
-        Verdict::Over => false,
-        Verdict::Fails => true,
-        Verdict::Holds => false,
-    }
 }
 
 // The pairs present of those from record `from` on, under the table and the M records from record `middle` on, and what they and the
@@ -103,7 +73,7 @@ fn judge_calls(
     starts: &[u16],
     nodes: &[u8; NODES_ROOM],
     rules: usize,
-) -> Answer
+) -> Result<usize, Refusal>
     requires { CallsAsked certificate.now from count middle rules arities.now starts.now nodes.now table.old lefts.old turn }
     ensures { CallsJudged certificate.now from count middle rules arities.now starts.now nodes.now table.old table.new lefts.old lefts.new turn verdict result }
 {
@@ -134,24 +104,25 @@ fn one_weighting(
     count: usize,
     from: usize,
     turn: Turn,
-    before: usize,
+    before: Option<usize>,
     table: &mut [u16; CELLS],
     lefts: &mut [u8; MOST_PAIRS],
     arities: &[u8; MOST_SYMBOLS],
     starts: &[u16],
     nodes: &[u8; NODES_ROOM],
     rules: usize,
-) -> Answer
+) -> Result<usize, Refusal>
     requires { TurnAsked certificate.now at count from before rules arities.now starts.now nodes.now table.old lefts.old turn }
     ensures { TurnJudged certificate.now at count from before rules arities.now starts.now nodes.now table.old table.new lefts.old lefts.new turn result }
 {
-    let same = crate::weighing::same_weights(certificate, before, from);
-    if 0 < same {
+    if let Some(before) = before
+        && let Some(middle) = crate::weighing::same_weights(certificate, before, from)
+    {
         return judge_calls(
             certificate,
             at + 1,
             count,
-            same,
+            middle,
             Verdict::Holds,
             turn,
             lefts,
@@ -165,8 +136,8 @@ fn one_weighting(
     let middle = refill(certificate, before, from, table);
     let r = crate::weighing::judge_rules(arities, table, starts, nodes, rules);
     // 11 whatever the pairs are.
-    if is_over(r) {
-        return Answer::Refused(Refusal::Heavy);
+    if r == Verdict::Over {
+        return Err(Refusal::Heavy);
     }
     judge_calls(
         certificate,
@@ -192,28 +163,27 @@ fn weighted(
     count: usize,
     weightings: u8,
     first: usize,
-    before: usize,
+    before: Option<usize>,
     table: &mut [u16; CELLS],
     lefts: &mut [u8; MOST_PAIRS],
     arities: &[u8; MOST_SYMBOLS],
     starts: &[u16],
     nodes: &[u8; NODES_ROOM],
     rules: usize,
-) -> Found
+) -> Result<Found, Refusal>
     requires { WeightedAsked certificate.now at count weightings first before rules arities.now starts.now nodes.now table.old lefts.old }
     ensures { WeightedJudged certificate.now at count weightings first before rules arities.now starts.now nodes.now table.old table.new lefts.old lefts.new result }
 {
     let mut weights = before;
     let mut from = at + 1 + count;
-    let mut number = 0u8;
-    while number < weightings {
+    for number in 0..weightings {
         let last = number + 1 == weightings;
         let turn = Turn {
             number,
             last,
             first,
         };
-        match one_weighting(
+        let next = one_weighting(
             certificate,
             at,
             count,
@@ -226,26 +196,16 @@ fn weighted(
             starts,
             nodes,
             rules,
-        ) {
-            Answer::Refused(x) => {
-                return Found {
-                    answer: Answer::Refused(x),
-                    weights,
-                };
-            }
-            Answer::Passed(next) => {
-                weights = from;
-                // Past the L record of the next one.
-                from = next + 1;
-            }
-        }
-        number = number + 1;
+        )?;
+        weights = Some(from);
+        // Past the L record of the next one.
+        from = next + 1;
     }
     // No L stands after the last.
-    Found {
-        answer: Answer::Passed(from - 1),
+    Ok(Found {
+        next: from - 1,
         weights,
-    }
+    })
 }
 
 // A component without a weighting: 10. Answers the record after it.
@@ -257,17 +217,17 @@ fn unweighted(
     nodes: &[u8; NODES_ROOM],
     defined: &[u8],
     rules: usize,
-) -> Answer
+) -> Result<usize, Refusal>
     requires { UnweightedAsked certificate.now at rules arities.now starts.now nodes.now defined.now }
     ensures { (a : UnweightedAsked certificate.now at rules arities.now starts.now nodes.now defined.now) → ComponentJudged a.kept.system a.there.component at result }
 {
     let r = records::record_at(certificate, 8 * (at + 1));
-    let rule = r.a as usize;
-    let right = starts[2 * rule + 1] as usize + r.b as usize;
+    let rule = usize::from(r.a);
+    let right = usize::from(starts[2 * rule + 1]) + usize::from(r.b);
     if pair_finder::arcs::arc_from(arities, starts, nodes, defined, right, rule) {
-        return Answer::Refused(Refusal::SelfArc);
+        return Err(Refusal::SelfArc);
     }
-    Answer::Passed(at + 2)
+    Ok(at + 2)
 }
 
 // The component whose C record, `header`, is record `at`.
@@ -276,7 +236,7 @@ fn judge_component(
     at: usize,
     header: Record,
     first: usize,
-    before: usize,
+    before: Option<usize>,
     table: &mut [u16; CELLS],
     lefts: &mut [u8; MOST_PAIRS],
     arities: &[u8; MOST_SYMBOLS],
@@ -284,21 +244,21 @@ fn judge_component(
     nodes: &[u8; NODES_ROOM],
     defined: &[u8],
     rules: usize,
-) -> Found
+) -> Result<Found, Refusal>
     requires { ComponentAsked certificate.now at header first before rules arities.now starts.now nodes.now defined.now table.old lefts.old }
     ensures { ComponentAnswered certificate.now at header first before rules arities.now starts.now nodes.now defined.now table.old table.new lefts.old lefts.new result }
 {
     if header.b == 0 {
-        let answer = unweighted(certificate, at, arities, starts, nodes, defined, rules);
-        return Found {
-            answer,
+        let next = unweighted(certificate, at, arities, starts, nodes, defined, rules)?;
+        return Ok(Found {
+            next,
             weights: before,
-        };
+        });
     }
     weighted(
         certificate,
         at,
-        header.c as usize,
+        usize::from(header.c),
         (header.b % 256) as u8,
         first,
         before,
@@ -322,16 +282,15 @@ pub fn judge_components(
     nodes: &[u8; NODES_ROOM],
     defined: &[u8],
     lefts: &mut [u8; MOST_PAIRS],
-) -> Answer
+) -> Result<(), Refusal>
     requires { ComponentsAsked certificate.now components rules arities.now starts.now nodes.now defined.now lefts.old }
     ensures { ComponentsJudged certificate.now components rules arities.now starts.now nodes.now defined.now lefts.old lefts.new result }
 {
     let mut table = [0u16; CELLS];
-    let mut before = 0;
+    let mut before = None;
     let mut at = 0;
     let mut first = 0;
-    let mut i = 0;
-    while i < components {
+    for _i in 0..components {
         let header = records::record_at(certificate, 8 * at);
         let found = judge_component(
             certificate,
@@ -346,19 +305,10 @@ pub fn judge_components(
             nodes,
             defined,
             rules,
-        );
-        let answer = found.answer;
-        match answer {
-            Answer::Refused(x) => {
-                return Answer::Refused(x);
-            }
-            Answer::Passed(next) => {
-                before = found.weights;
-                at = next;
-                first = first + header.c as usize;
-            }
-        }
-        i = i + 1;
+        )?;
+        before = found.weights;
+        at = found.next;
+        first += usize::from(header.c);
     }
-    Answer::Passed(0)
+    Ok(())
 }

@@ -7,18 +7,11 @@ ghost use Rattle.partition.specs.Working.{Judgeable};
 ghost use Rattle.checker.specs.Working.{AllJudged};
 
 use entries::Store;
-use records::{Answer, MOST_PAIRS};
+use records::{MOST_PAIRS, Refusal};
 use terms::{MOST_SYMBOLS, NODES_ROOM};
 
-// What a certificate comes to, and the entries of its pairs. Where it is accepted, each tells the weighting under which its pair left,
-// or 0 where the component has none.
-#[derive(Clone, Copy)]
-pub struct Judged {
-    pub store: Store,
-    pub answer: Answer,
-}
-
-// Judges a certificate that was read.
+// Judges a certificate that was read. Where it is accepted, answers the entries of its pairs: each tells the weighting under which its
+// pair left, or 0 where the component has none.
 pub fn judge(
     certificate: &[u8],
     components: usize,
@@ -27,12 +20,12 @@ pub fn judge(
     starts: &[u16],
     nodes: &[u8; NODES_ROOM],
     defined: &[u8],
-) -> Judged
+) -> Result<Store, Refusal>
     requires { Judgeable certificate.now components rules arities.now starts.now nodes.now defined.now }
     ensures { (j : Judgeable certificate.now components rules arities.now starts.now nodes.now defined.now) → AllJudged j.kept.system j.all result }
 {
     let store = entries::keep(certificate);
-    match partition::judge(
+    partition::judge(
         certificate,
         store,
         components,
@@ -41,35 +34,17 @@ pub fn judge(
         starts,
         nodes,
         defined,
-    ) {
-        Answer::Refused(x) => Judged {
-            store,
-            answer: Answer::Refused(x),
-        },
-        Answer::Passed(_) => {
-            let mut lefts = [0u8; MOST_PAIRS];
-            match component::judge_components(
-                certificate,
-                components,
-                rules,
-                arities,
-                starts,
-                nodes,
-                defined,
-                &mut lefts,
-            ) {
-                Answer::Refused(x) => Judged {
-                    store,
-                    answer: Answer::Refused(x),
-                },
-                Answer::Passed(next) => {
-                    let told = entries::tell(store, &lefts);
-                    Judged {
-                        store: told,
-                        answer: Answer::Passed(next),
-                    }
-                }
-            }
-        }
-    }
+    )?;
+    let mut lefts = [0u8; MOST_PAIRS];
+    component::judge_components(
+        certificate,
+        components,
+        rules,
+        arities,
+        starts,
+        nodes,
+        defined,
+        &mut lefts,
+    )?;
+    Ok(entries::tell(store, &lefts))
 }

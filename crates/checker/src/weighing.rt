@@ -1,8 +1,8 @@
 // The weights of a weighting in the table, and all rules and the pairs present under them.
-ghost use Rattle.std.specs.Prelude.{◌≡◌, List, ◌+◌, ◌*◌, ◌≤◌, ◌<◌, get_or, set};
+ghost use Rattle.std.specs.Prelude.{◌≡◌, IfSome, List, ◌+◌, ◌*◌, ◌≤◌, ◌<◌, get_or, set};
 ghost use Rattle.polynomials.specs.Polynomials.{Weight};
 ghost use Rattle.weights.specs.Table.{TableIs};
-ghost use Rattle.checker.specs.Working.{own_base, rules_verdict, with_verdict, number_after, FillAsked, Filled, ClearAsked, Cleared, WeightsAgree, RulesAsked, PresentAsked, PresentJudged};
+ghost use Rattle.checker.specs.Working.{own_base, rules_verdict, with_verdict, number_after, Standing, PutAll, FillAsked, Filled, ClearAsked, Cleared, WeightsAgree, RulesAsked, PresentAsked, PresentJudged};
 
 use records::{MOST_PAIRS, Record};
 use terms::{MOST_SYMBOLS, Marked, NODES_ROOM, Symbol};
@@ -10,20 +10,40 @@ use weights::sums::SUMS;
 use weights::table::CELLS;
 use weights::{PairVerdict, Verdict};
 
-// Above the number of every rule.
-const NO_RULE: usize = 65536;
-
 // Stores a value in the cell of a weight record: W is of a symbol, M of a tuple symbol.
 fn store(table: &mut [u16; CELLS], r: Record, value: u16)
     requires { (r.a < 64) × (r.b ≤ 8) }
     ensures { table.new ≡ set table.old (own_base r.kind + (9 * r.a + r.b)) value }
 {
-    let i = r.b as usize;
+    let i = usize::from(r.b);
     if r.kind == b'W' {
         weights::table::put(table, Symbol(r.a), i, value);
-        return;
+    } else {
+        weights::table::put(table, Marked(r.a), i, value);
     }
-    weights::table::put(table, Marked(r.a), i, value);
+}
+
+// Puts into the cells of the weight records of a kind that stand from record `from` on their values, or 0 if it clears them. Answers
+// the record after them.
+fn put_all(
+    certificate: &[u8],
+    from: usize,
+    kind: u8,
+    clears: bool,
+    table: &mut [u16; CELLS],
+) -> usize
+    requires { Standing certificate.now from kind }
+    ensures { PutAll clears certificate.now from kind table.old table.new result }
+{
+    let n = certificate.len() / 8;
+    for at in from..n {
+        let r = records::record_at(certificate, 8 * at);
+        if r.kind != kind {
+            return at;
+        }
+        store(table, r, if clears { 0 } else { r.c });
+    }
+    from.max(n)
 }
 
 // Fills the table from the weight records of a kind that stand from record `from` on. Answers the record after them.
@@ -31,17 +51,7 @@ pub fn fill(certificate: &[u8], from: usize, kind: u8, table: &mut [u16; CELLS])
     requires { FillAsked certificate.now from kind table.old }
     ensures { Filled certificate.now from kind table.old table.new result }
 {
-    let n = certificate.len() / 8;
-    let mut at = from;
-    while at < n {
-        let r = records::record_at(certificate, 8 * at);
-        if r.kind != kind {
-            return at;
-        }
-        store(table, r, r.c);
-        at = at + 1;
-    }
-    at
+    put_all(certificate, from, kind, false, table)
 }
 
 // Clears the table by the weight records that filled it, which stand from record `from` on.
@@ -49,27 +59,15 @@ pub fn clear(certificate: &[u8], from: usize, kind: u8, table: &mut [u16; CELLS]
     requires { ClearAsked certificate.now from kind table.old }
     ensures { Cleared kind table.old table.new }
 {
-    let n = certificate.len() / 8;
-    let mut at = from;
-    while at < n {
-        let r = records::record_at(certificate, 8 * at);
-        if r.kind != kind {
-            return;
-        }
-        store(table, r, 0);
-        at = at + 1;
-    }
+    put_all(certificate, from, kind, true, table);
 }
 
-// Compares the W records from record `from` on with those from record `before` on. Answers the record after them, or 0 where they
-// differ, and where `before` is 0, which stands for none.
-pub fn same_weights(certificate: &[u8], before: usize, from: usize) -> usize
+// Compares the W records from record `from` on with those from record `before` on. Answers the record after them, where they are the
+// same.
+pub fn same_weights(certificate: &[u8], before: usize, from: usize) -> Option<usize>
     requires { before < from }
-    ensures { 0 < result → WeightsAgree certificate.now before from result }
+    ensures { IfSome result (λ after. WeightsAgree certificate.now before from after) }
 {
-    if before == 0 {
-        return 0;
-    }
     let n = certificate.len() / 8;
     let mut i = before;
     let mut at = from;
@@ -78,28 +76,25 @@ pub fn same_weights(certificate: &[u8], before: usize, from: usize) -> usize
         let y = records::word_at(certificate, 8 * at);
         // Equality before the kind, for one load of each: DECISIONS 79.
         if x != y {
-            if records::fields(x).kind == b'W' {
-                return 0;
+            if records::fields(x).kind == b'W' || records::fields(y).kind == b'W' {
+                return None;
             }
-            if records::fields(y).kind == b'W' {
-                return 0;
-            }
-            return at;
+            return Some(at);
         }
         if records::fields(x).kind != b'W' {
-            return at;
+            return Some(at);
         }
-        i = i + 1;
-        at = at + 1;
+        i += 1;
+        at += 1;
     }
     // They end the file: the same if those before end here too.
     if i < n {
         let x = records::record_at(certificate, 8 * i);
         if x.kind != b'W' {
-            return at;
+            return Some(at);
         }
     }
-    0
+    None
 }
 
 // All rules: over if one is, else failing if one fails.
@@ -113,27 +108,22 @@ pub fn judge_rules(
     requires { RulesAsked rules arities.now starts.now nodes.now }
     ensures { (a : RulesAsked rules arities.now starts.now nodes.now) (ws ms : List Weight) → TableIs table.now ws → result ≡ rules_verdict a.kept.system ws ms }
 {
-    let mut failed = false;
-    let mut i = 0;
-    while i < rules {
-        let left = starts[2 * i] as usize;
-        let right = starts[2 * i + 1] as usize;
-        let end = starts[2 * i + 2] as usize;
+    let mut found = Verdict::Holds;
+    for i in 0..rules {
+        let left = usize::from(starts[2 * i]);
+        let right = usize::from(starts[2 * i + 1]);
+        let end = usize::from(starts[2 * i + 2]);
         match weights::judging::judge_rule(arities, table, nodes, left, right, end) {
             Verdict::Over => {
                 return Verdict::Over;
             }
             Verdict::Fails => {
-                failed = true;
+                found = Verdict::Fails;
             }
             Verdict::Holds => {}
         }
-        i = i + 1;
     }
-    if failed {
-        return Verdict::Fails;
-    }
-    Verdict::Holds
+    found
 }
 
 // What the pairs present come to under a weighting: whether one is over the limit and, where none is, whether one rises, one stays,
@@ -147,34 +137,15 @@ pub struct Tally {
 }
 
 // With one more pair.
+#[tactic(auto, unfolding(crate::specs::Working::with_verdict))]
 fn noted(t: Tally, v: PairVerdict) -> Tally
     ensures { result ≡ with_verdict t v }
 {
     match v {
-        PairVerdict::Over => Tally {
-            over: true,
-            rises: t.rises,
-            stays: t.stays,
-            falls: t.falls,
-        },
-        PairVerdict::Rises => Tally {
-            over: t.over,
-            rises: true,
-            stays: t.stays,
-            falls: t.falls,
-        },
-        PairVerdict::Stays => Tally {
-            over: t.over,
-            rises: t.rises,
-            stays: true,
-            falls: t.falls,
-        },
-        PairVerdict::Falls => Tally {
-            over: t.over,
-            rises: t.rises,
-            stays: t.stays,
-            falls: true,
-        },
+        PairVerdict::Over => Tally { over: true, ..t },
+        PairVerdict::Rises => Tally { rises: true, ..t },
+        PairVerdict::Stays => Tally { stays: true, ..t },
+        PairVerdict::Falls => Tally { falls: true, ..t },
     }
 }
 
@@ -183,20 +154,8 @@ fn renumber(lefts: &mut [u8; MOST_PAIRS], at: usize, v: PairVerdict, number: u8)
     requires { (at < 2048) × (number < 8) × (get_or lefts.old at 0 ≡ number) }
     ensures { lefts.new ≡ set lefts.old at (number_after v number) }
 {
-    match v {
-        PairVerdict::Over => {
-            return;
-        }
-        PairVerdict::Rises => {
-            return;
-        }
-        PairVerdict::Stays => {
-            lefts[at] = number + 1;
-            return;
-        }
-        PairVerdict::Falls => {
-            return;
-        }
+    if v == PairVerdict::Stays {
+        lefts[at] = number + 1;
     }
 }
 
@@ -219,37 +178,34 @@ pub fn judge_pairs(
     ensures { PresentJudged certificate.now from count first number rules arities.now starts.now nodes.now table.now lefts.old lefts.new result }
 {
     let mut sums = [0u64; SUMS];
-    let mut last = NO_RULE;
+    let mut last = None;
     let mut found = Tally {
         over: false,
         rises: false,
         stays: false,
         falls: false,
     };
-    let mut i = 0;
-    while i < count {
+    for i in 0..count {
         // The others have left.
         if lefts[first + i] == number {
             let r = records::record_at(certificate, 8 * (from + i));
-            let rule = r.a as usize;
-            let left = starts[2 * rule] as usize;
-            let middle = starts[2 * rule + 1] as usize;
-            let end = starts[2 * rule + 2] as usize;
-            let right = middle + r.b as usize;
-            if rule != last {
+            let rule = usize::from(r.a);
+            let left = usize::from(starts[2 * rule]);
+            let middle = usize::from(starts[2 * rule + 1]);
+            let end = usize::from(starts[2 * rule + 2]);
+            let right = middle + usize::from(r.b);
+            if last != Some(rule) {
                 sums = [0u64; SUMS];
                 weights::judging::marked_side(arities, table, nodes, left, middle, true, &mut sums);
-                last = rule;
+                last = Some(rule);
             }
             let v = weights::judging::judge_call(arities, table, nodes, right, end, true, &sums);
             found = noted(found, v);
-            let over = found.over;
-            if over {
+            if found.over {
                 return found;
             }
             renumber(lefts, first + i, v, number);
         }
-        i = i + 1;
     }
     found
 }

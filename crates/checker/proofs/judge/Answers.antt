@@ -1,5 +1,5 @@
 -- `checker::judge` meets its contract: 8 and 9, else the components'.
-use mathlib.Core.Path.{◌≡◌, refl, sym, ap, ◌∙◌}
+use mathlib.Core.Path.{◌≡◌, refl, sym, ◌∙◌}
 use mathlib.Core.Bool.{Bool, true, false, cond}
 use mathlib.Core.List.{List, []}
 use Prim.Native.Nat.{ℕ, zero, suc}
@@ -8,11 +8,10 @@ use lib.ListN.{get_or, replicate}
 use native.Mathlib.Omega.{arith}
 use borrow.Author.Tests.{ne_eqb}
 use Rattle.rewriting.specs.Terms.{System}
-use Rattle.records.specs.declared.Answer.{Answer}
-use Rattle.records.specs.declared.Answer.TheVariants.{Passed, Refused}
+use Rattle.std.specs.Prelude.{Ok, Err}
+use Rattle.std.proofs.lemmas.Result.{err_from_is_err_and}
 use Rattle.records.specs.declared.Refusal.{Refusal}
-use Rattle.records.specs.Outcomes.{refusal}
-use Rattle.records.specs.Answers.{number_of, answer_outcome}
+use Rattle.records.specs.Answers.{number_of}
 use Rattle.records.proofs.Outcomes.{number_some}
 use Rattle.pairs.specs.Listing.{pairs}
 use Rattle.certificates.specs.Components.{Component}
@@ -39,15 +38,15 @@ judged_then p cs = either_way (each_once (pairs p) (all_pairs cs)) (back_arc (pl
 some_number : (x : Refusal) → eqb (number_of x) 0 ≡ false
 some_number x = ne_eqb (number_of x) 0 (λ z. omega (arith, number_some x))
 
-refused_stays : (p : System) (cs : List Component) (r : Answer) (x : Refusal) → r ≡ Refused x → OrderedAs p cs r → judged p (plain p) cs ≡ number_of x
+refused_stays : (p : System) (cs : List Component) (x : Refusal) → OrderedAs p cs (Err x) → judged p (plain p) cs ≡ number_of x
 unfolding OrderedAs
-refused_stays p cs r x e h =
-    let n : ordered p cs ≡ number_of x = sym h ∙ ap (λ (a : Answer). refusal (answer_outcome a)) e in
+refused_stays p cs x h =
+    let n : ordered p cs ≡ number_of x = sym h in
     judged_then p cs ∙ rw (n, some_number x)
 
-none_of_these : (p : System) (cs : List Component) (r : Answer) (n : ℕ) → r ≡ Passed n → OrderedAs p cs r → ordered p cs ≡ 0
+none_of_these : (p : System) (cs : List Component) (u : Unit {0}) → OrderedAs p cs (Ok u) → ordered p cs ≡ 0
 unfolding OrderedAs
-none_of_these p cs r n e h = sym h ∙ ap (λ (a : Answer). refusal (answer_outcome a)) e
+none_of_these p cs u h = sym h
 
 passed_on : (p : System) (cs : List Component) → ordered p cs ≡ 0 → judged p (plain p) cs ≡ components_refusal p (plain p) cs
 passed_on p cs z = judged_then p cs ∙ rw z
@@ -58,54 +57,44 @@ all_zero zero k = refl
 all_zero (suc n) zero = refl
 all_zero (suc n) (suc k) = all_zero n k
 
+-- the components are judged where 8 and 9 are not given
+abbrev all_asked : {cert : List ℕ} {components rules : ℕ} {ar ss ns ms : List ℕ} (j : Judgeable cert components rules ar ss ns ms) →
+    ordered j.kept.system j.all ≡ 0 → ComponentsAsked cert components rules ar ss ns ms (replicate 2048 0)
+all_asked j neither = components_asked j (few_pairs j neither) refl (all_zero 2048)
+
+pub returns-in_err-judge : goal.returns-in_err-judge
+unfolding JudgedAs
+returns-in_err-judge c =
+    let p = err_from_is_err_and c.from_residual.result c.from_residual.ensures.1 in
+    rw (p.1, p.2)
+    (λ j. record { numbered = sym (refused_stays _ _ _ (c.in_err-judge.ensures j)); told = λ s is. cc })
+
 pub judge_components-requires : goal.judge_components-requires
-judge_components-requires c =
-    let Asked : Type 0 = Judgeable c.args.certificate.now c.args.components c.args.rules c.args.arities.now c.args.starts.now c.args.nodes.now c.args.defined.now in
-    let neither : (j : Asked) → ordered j.kept.system j.all ≡ 0 = (λ j. none_of_these _ _ _ _ c.in-Passed.is (c.judge.ensures j)) in
-    let all_asked : (j : Asked) → let a = c.args in
-    ComponentsAsked a.certificate.now a.components a.rules a.arities.now a.starts.now a.nodes.now a.defined.now (replicate 2048 0) = (λ j. components_asked j (few_pairs j (neither j)) refl (all_zero 2048)) in
-    all_asked c.requires
+judge_components-requires c = let j = c.requires in all_asked j (none_of_these _ _ _ (c.in_ok-judge.ensures j))
 
-pub tell-told-requires : goal.tell-told-requires
-tell-told-requires c =
-    let Asked : Type 0 = Judgeable c.args.certificate.now c.args.components c.args.rules c.args.arities.now c.args.starts.now c.args.nodes.now c.args.defined.now in
-    let neither : (j : Asked) → ordered j.kept.system j.all ≡ 0 = (λ j. none_of_these _ _ _ _ c.in-Passed.is (c.judge.ensures j)) in
-    let j = c.requires in
-    has_room j c.keep-store.ensures (few_pairs j (neither j))
-
-pub returns-in-Refused : goal.returns-in-Refused
+pub returns-in_err-judge_components : goal.returns-in_err-judge_components
 unfolding JudgedAs
-returns-in-Refused c =
-    λ j.
-    let number = refused_stays _ _ _ _ c.in-Refused.is (c.judge.ensures j) in
-    record { numbered = sym number; told = λ h. absurd (omega (arith, number_some c.in-Refused.x, number)) }
+returns-in_err-judge_components c =
+    let x = c.in_err-judge_components.field-0.0 in
+    let p = err_from_is_err_and c.from_residual-in_err-judge_components.result c.from_residual-in_err-judge_components.ensures.1 in
+    rw (p.1, p.2)
+    (λ j.
+    let neither = none_of_these _ _ _ (c.in_ok-judge.ensures j) in
+    record { numbered = c.in_err-judge_components.ensures.judged (all_asked j neither) ∙ sym (passed_on _ _ neither); told = λ s is. cc })
 
-pub returns-in-Refused-judge_components : goal.returns-in-Refused-judge_components
-unfolding JudgedAs
-returns-in-Refused-judge_components c =
-    let Asked : Type 0 = Judgeable c.args.certificate.now c.args.components c.args.rules c.args.arities.now c.args.starts.now c.args.nodes.now c.args.defined.now in
-    let neither : (j : Asked) → ordered j.kept.system j.all ≡ 0 = (λ j. none_of_these _ _ _ _ c.in-Passed.is (c.judge.ensures j)) in
-    let all_asked : (j : Asked) → let a = c.args in
-    ComponentsAsked a.certificate.now a.components a.rules a.arities.now a.starts.now a.nodes.now a.defined.now (replicate 2048 0) = (λ j. components_asked j (few_pairs j (neither j)) refl (all_zero 2048)) in
-    let number_is : (j : Asked) →
-    JudgedAs (judged j.kept.system (plain j.kept.system) j.all) c.judge_components.result = (λ j. c.judge_components.ensures.judged (all_asked j) ∙ sym (passed_on _ _ (neither j))) in
-    λ j.
-    let number = ap (λ (a : Answer). refusal (answer_outcome a)) (sym c.in-Refused-judge_components.is) ∙ number_is j in
-    record { numbered = number; told = λ h. absurd (omega (arith, number_some c.in-Refused-judge_components.x, number, h)) }
+pub tell-requires : goal.tell-requires
+tell-requires c = let j = c.requires in has_room j c.keep-store.ensures (few_pairs j (none_of_these _ _ _ (c.in_ok-judge.ensures j)))
 
-pub returns-in-Passed-judge_components : goal.returns-in-Passed-judge_components
+pub returns : goal.returns
 unfolding JudgedAs
-returns-in-Passed-judge_components c =
-    let Asked : Type 0 = Judgeable c.args.certificate.now c.args.components c.args.rules c.args.arities.now c.args.starts.now c.args.nodes.now c.args.defined.now in
-    let neither : (j : Asked) → ordered j.kept.system j.all ≡ 0 = (λ j. none_of_these _ _ _ _ c.in-Passed.is (c.judge.ensures j)) in
-    let all_asked : (j : Asked) → let a = c.args in
-    ComponentsAsked a.certificate.now a.components a.rules a.arities.now a.starts.now a.nodes.now a.defined.now (replicate 2048 0) = (λ j. components_asked j (few_pairs j (neither j)) refl (all_zero 2048)) in
-    let number_is : (j : Asked) →
-    JudgedAs (judged j.kept.system (plain j.kept.system) j.all) c.judge_components.result = (λ j. c.judge_components.ensures.judged (all_asked j) ∙ sym (passed_on _ _ (neither j))) in
+returns c =
     λ j.
+    let neither = none_of_these _ _ _ (c.in_ok-judge.ensures j) in
+    let judged_all = c.in_ok-judge_components.ensures in
+    let number : 0 ≡ components_refusal j.kept.system (plain j.kept.system) j.all = judged_all.judged (all_asked j neither) in
     record {
-      numbered = ap (λ (a : Answer). refusal (answer_outcome a)) (sym c.in-Passed-judge_components.is) ∙ number_is j;
-      told = λ h.
-          store_tells j c.keep-store.ensures (few_pairs j (neither j)) c.tell-told.ensures
-          (c.judge_components.ensures.numbers (all_asked j) (sym (passed_on _ _ (neither j)) ∙ h));
+      numbered = number ∙ sym (passed_on _ _ neither);
+      told = λ s is.
+          let same : c.tell.result ≡ s = cc in
+          rw (← same) (store_tells j c.keep-store.ensures (few_pairs j neither) c.tell.ensures (judged_all.numbers (all_asked j neither) (sym number)));
     }

@@ -1,59 +1,66 @@
 -- `checker::component::choose` meets its contract, case by case.
-use mathlib.Core.Path.{◌≡◌, refl, sym, ap, ◌∙◌}
-use mathlib.Core.Bool.{Bool, true, false, ◌&&◌}
-use mathlib.Core.Logic.{⊎_elim}
-use Rattle.checker.specs.Working.{is_over, fails, chosen}
+use mathlib.Core.Path.{◌≡◌, sym, ap, ◌∙◌}
+use mathlib.Core.Bool.{Bool, true, false, ◌&&◌, ◌||◌, not}
+use Rattle.checker.specs.Working.{is_over, chosen}
+use Rattle.checker.proofs.Verdicts.{over_told, fails_told}
+use Rattle.checker.proofs.component.choose.Goals.{then-eq-via-then-eq, then-eq-via-else-eq+then-pairs, then-pairs-2-via-then-pairs-2, then-pairs-2-via-else-pairs-2+then-pairs-3, then-last, else-last}
 use Rattle.checker.proofs.component.choose.Goals as goal
 
--- this is not the last, or none remains
-last_stays : (last stays : Bool) → stays ≡ false → (last && stays) ≡ false
-last_stays true stays h = h
-last_stays false stays h = refl
+turned : (b c : Bool) → not b ≡ c → b ≡ not c
+turned true c h = ap not h
+turned false c h = ap not h
 
-pub returns-then-is_over : goal.returns-then-is_over
+pub returns-then-eq : goal.returns-then-eq
 unfolding chosen
-returns-then-is_over c = rw (sym c.is_over.ensures ∙ c.if-is_over.true)
+returns-then-eq c =
+    let heavy : (is_over c.args.rules || c.args.pairs.over) ≡ true =
+    elim c.then-eq.branch [
+      | then-eq-via-then-eq w ↦ rw (over_told _ _ w.if-eq.ensures)
+      | then-eq-via-else-eq+then-pairs w ↦ rw (over_told _ _ w.if-eq.ensures, w.if-pairs.true)
+    ] in
+    rw heavy
 
-pub returns-then-pairs : goal.returns-then-pairs
+pub returns-then-eq-2 : goal.returns-then-eq-2
 unfolding chosen
-returns-then-pairs c =
-    let rules_within : is_over c.args.rules ≡ false = sym c.is_over.ensures ∙ c.if-is_over.false in
-    rw (rules_within, c.if-pairs.true)
-
-pub returns-then-fails : goal.returns-then-fails
-unfolding chosen
-returns-then-fails c =
-    let rules_within : is_over c.args.rules ≡ false = sym c.is_over.ensures ∙ c.if-is_over.false in
-    rw (rules_within, c.if-pairs.false, sym c.fails.ensures ∙ c.if-fails.true)
+returns-then-eq-2 c = rw (over_told _ _ c.if-eq.ensures, c.if-pairs.false, fails_told _ _ c.if-eq-2.ensures)
 
 pub returns-then-pairs-2 : goal.returns-then-pairs-2
 unfolding chosen
 returns-then-pairs-2 c =
-    let rules_within : is_over c.args.rules ≡ false = sym c.is_over.ensures ∙ c.if-is_over.false in
-    let no_rule_rises : fails c.args.rules ≡ false = sym c.fails.ensures ∙ c.if-fails.false in
-    rw (rules_within, c.if-pairs.false, no_rule_rises, c.if-pairs-2.true)
+    let a = c.args in
+    let stays : (a.pairs.rises || (a.last && a.pairs.stays)) ≡ true =
+    elim c.then-pairs-2.branch [
+      | then-pairs-2-via-then-pairs-2 w ↦ rw w.if-pairs-2.true
+      | then-pairs-2-via-else-pairs-2+then-pairs-3 w ↦
+          let last : (a.last && a.pairs.stays) ≡ w.if-last.value =
+          elim w.if-last.branch [
+            | then-last z ↦ rw z.if-last.true (sym z.value-is)
+            | else-last z ↦ rw z.if-last.false (sym (z.value-is ∙ z.if-last.false))
+          ] in
+          rw (w.if-pairs-2.false, last, w.if-pairs-3.true)
+    ] in
+    rw (over_told _ _ c.if-eq.ensures, c.if-pairs.false, fails_told _ _ c.if-eq-2.ensures, stays)
 
-pub returns-then-pairs-3 : goal.returns-then-pairs-3
+pub returns-then-not-pairs : goal.returns-then-not-pairs
 unfolding chosen
-returns-then-pairs-3 c =
-    let rules_within : is_over c.args.rules ≡ false = sym c.is_over.ensures ∙ c.if-is_over.false in
-    let no_rule_rises : fails c.args.rules ≡ false = sym c.fails.ensures ∙ c.if-fails.false in
-    rw (rules_within, c.if-pairs.false, no_rule_rises, c.if-pairs-2.false, c.if-last.true, c.if-pairs-3.true)
-
-pub returns-then-pairs-4 : goal.returns-then-pairs-4
-unfolding chosen
-returns-then-pairs-4 c =
-    let rules_within : is_over c.args.rules ≡ false = sym c.is_over.ensures ∙ c.if-is_over.false in
-    let no_rule_rises : fails c.args.rules ≡ false = sym c.fails.ensures ∙ c.if-fails.false in
-    let none_remains : let a = c.args in (a.last && a.pairs.stays) ≡ false = let a = c.args in
-    ⊎_elim (λ h. last_stays a.last a.pairs.stays h.if-pairs-3.false) (λ h. ap (λ (b : Bool). b && a.pairs.stays) h.if-last.false) c.if-last.branch-raw in
-    rw (rules_within, c.if-pairs.false, no_rule_rises, c.if-pairs-2.false, none_remains, c.if-pairs-4.true)
+returns-then-not-pairs c =
+    let a = c.args in
+    let last : (a.last && a.pairs.stays) ≡ c.if-last.value =
+    elim c.if-last.branch [
+      | then-last z ↦ rw z.if-last.true (sym z.value-is)
+      | else-last z ↦ rw z.if-last.false (sym (z.value-is ∙ z.if-last.false))
+    ] in
+    let none : a.pairs.falls ≡ false = turned a.pairs.falls true c.if-not-pairs.true in
+    rw (over_told _ _ c.if-eq.ensures, c.if-pairs.false, fails_told _ _ c.if-eq-2.ensures, c.if-pairs-2.false, last, c.if-pairs-3.false, none)
 
 pub returns : goal.returns
 unfolding chosen
 returns c =
-    let rules_within : is_over c.args.rules ≡ false = sym c.is_over.ensures ∙ c.if-is_over.false in
-    let no_rule_rises : fails c.args.rules ≡ false = sym c.fails.ensures ∙ c.if-fails.false in
-    let none_remains : let a = c.args in (a.last && a.pairs.stays) ≡ false = let a = c.args in
-    ⊎_elim (λ h. last_stays a.last a.pairs.stays h.if-pairs-3.false) (λ h. ap (λ (b : Bool). b && a.pairs.stays) h.if-last.false) c.if-last.branch-raw in
-    rw (rules_within, c.if-pairs.false, no_rule_rises, c.if-pairs-2.false, none_remains, c.if-pairs-4.false)
+    let a = c.args in
+    let last : (a.last && a.pairs.stays) ≡ c.if-last.value =
+    elim c.if-last.branch [
+      | then-last z ↦ rw z.if-last.true (sym z.value-is)
+      | else-last z ↦ rw z.if-last.false (sym (z.value-is ∙ z.if-last.false))
+    ] in
+    let some : a.pairs.falls ≡ true = turned a.pairs.falls false c.if-not-pairs.false in
+    rw (over_told _ _ c.if-eq.ensures, c.if-pairs.false, fails_told _ _ c.if-eq-2.ensures, c.if-pairs-2.false, last, c.if-pairs-3.false, some)

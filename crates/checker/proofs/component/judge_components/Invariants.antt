@@ -2,7 +2,6 @@
 -- stand from record `at` on, their number is the number of all, what is known of the rules under the last weights, and what the numbers
 -- of the pairs before them tell.
 use mathlib.Core.List.{[]}
-use Prim.Native.Nat.{◌-◌, ◌≤◌}
 use Rattle.weights.specs.Table.{MarkedIs}
 use Rattle.checker.specs.Working.{ComponentsAsked}
 use Rattle.checker.proofs.Components.{Left}
@@ -10,9 +9,5 @@ use Rattle.checker.proofs.component.judge_components.Given as goal
 
 abbrev pub invariant-loop-i : goal.invariant-loop-i
 invariant-loop-i l =
-    (l.i ≤ l.components)
-    × MarkedIs l.table []
-    × ((a : ComponentsAsked l.certificate l.components l.rules l.arities l.starts l.nodes l.defined l.initial.lefts) → Left a l.at l.first l.i l.before l.table l.lefts)
-
-abbrev pub decreases-loop-i : goal.decreases-loop-i
-decreases-loop-i l = l.components - l.i
+    MarkedIs l.table []
+    × ((a : ComponentsAsked l.certificate l.components l.rules l.arities l.starts l.nodes l.defined l.initial.lefts) → Left a l.at l.first l._i l.before l.table l.lefts)

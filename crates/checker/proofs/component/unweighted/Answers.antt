@@ -9,7 +9,7 @@ use lib.ListN.{length, get_or}
 use Rattle.rewriting.specs.Terms.{System}
 use Rattle.rewriting.specs.Pairs.{Pair, is_pair}
 use Rattle.records.specs.declared.Record.{Record}
-use Rattle.records.specs.declared.Answer.TheVariants.{Passed, Refused}
+use Rattle.std.specs.Prelude.{Ok, Err}
 use Rattle.records.specs.declared.Refusal.TheVariants.{SelfArc}
 use Rattle.records.specs.Records.{record_at}
 use Rattle.pack_reader.specs.Stored.{Stored}
@@ -85,11 +85,11 @@ module _ {cert : List ℕ} {at rules : ℕ} {ar ss ns ms : List ℕ} (a : Unweig
       unfolding pair_record
       self_arc = stored_arc_answer p a.kept.symbols rules ar ss ns ms s a.kept.arrays q q is (pair_in_rules s q is) b (rw reads_pair at answer)
 
-      refuses : b ≡ true → ComponentJudged p c at (Refused SelfArc)
+      refuses : b ≡ true → ComponentJudged p c at (Err SelfArc)
       unfolding ComponentJudged answered
       refuses h = rw (number, ← self_arc, h)
 
-      passes : b ≡ false → ComponentJudged p c at (Passed (at + 2))
+      passes : b ≡ false → ComponentJudged p c at (Ok (at + 2))
       unfolding ComponentJudged answered
       passes h = rw (number, ← self_arc, h, counted)
 
@@ -109,21 +109,13 @@ record_at-r-requires c =
     omega (arith, next_within)
 
 pub bounds-starts-rule : goal.bounds-starts-rule
-bounds-starts-rule c =
-    let its_rule : c.record_at-r.result.a < c.args.rules = in_rules c.requires c.record_at-r.ensures in
-    omega (arith, its_rule)
-
-pub overflow_cast-right : goal.overflow_cast-right
-overflow_cast-right c = omega (arith, c.shared_slice_known-4-1.given (2 * c.record_at-r.result.a + 1))
-
-pub overflow_add-right-2 : goal.overflow_add-right-2
-overflow_add-right-2 c = omega (arith, c.shared_slice_known-4-1.given (2 * c.record_at-r.result.a + 1))
+bounds-starts-rule c = omega (arith, in_rules c.requires c.record_at-r.ensures)
 
 pub arc_from-requires : goal.arc_from-requires
-arc_from-requires c = asked c.requires c.record_at-r.ensures
+arc_from-requires c = rw (c.from.ensures, c.from-2.ensures, c.from-rule.ensures) (asked c.requires c.record_at-r.ensures)
 
 pub returns-then-arc_from : goal.returns-then-arc_from
-returns-then-arc_from c = λ a. refuses a c.record_at-r.ensures c.arc_from.ensures c.if-arc_from.true
+returns-then-arc_from c = λ a. refuses a c.record_at-r.ensures (rw (c.from.ensures, c.from-2.ensures, c.from-rule.ensures) at c.arc_from.ensures) c.if-arc_from.true
 
 pub overflow_add-result : goal.overflow_add-result
 overflow_add-result c =
@@ -131,4 +123,4 @@ overflow_add-result c =
     omega (arith, next_within)
 
 pub returns : goal.returns
-returns c = λ a. passes a c.record_at-r.ensures c.arc_from.ensures c.if-arc_from.false
+returns c = λ a. passes a c.record_at-r.ensures (rw (c.from.ensures, c.from-2.ensures, c.from-rule.ensures) at c.arc_from.ensures) c.if-arc_from.false

@@ -1,12 +1,16 @@
 -- `checker::weighing::judge_pairs` meets its contract. The loop's invariant: the pairs before pair i are judged or have left, the numbers
 -- from it on are as they were, and what is known of the left side of rule `last` is kept.
-use mathlib.Core.Path.{◌≡◌, refl, sym, ◌∙◌}
-use mathlib.Core.Bool.{true, false, true≢false}
-use mathlib.Core.Logic.{⊎_elim}
+use mathlib.Core.Path.{◌≡◌, refl, sym, ap, ◌∙◌}
+use mathlib.Core.Bool.{true, false, not, true≢false, false≢true}
 use mathlib.Core.List.{List}
-use Prim.Native.Nat.{ℕ, ◌+◌, ◌*◌, ◌-◌, ◌/◌, ◌≤◌, ◌<◌}
+use Prim.Native.Nat.{ℕ, ◌+◌, ◌*◌, ◌-◌, ◌/◌, ◌<◌}
 use native.Mathlib.Omega.{arith}
+use lib.Dec.{eqb}
 use lib.ListN.{length, get_or}
+use borrow.Author.Tests.{eqb-true}
+use Rattle.std.specs.Option.{option_eq}
+use Rattle.rewriting.proofs.Basics.{by_test}
+use Rattle.std.specs.Prelude.{Option, None, Some}
 use Rattle.rewriting.specs.Terms.{System}
 use Rattle.rewriting.specs.Pairs.{Pair, is_pair, arguments}
 use Rattle.records.specs.declared.Record.{Record}
@@ -25,16 +29,22 @@ use Rattle.checker.proofs.FromStore.{weighting, pair_in_rules, left_applied, rig
 use Rattle.checker.proofs.Positions.{pair_here}
 use Rattle.checker.proofs.Tallies.{no_pair_judged, pair_gone, pair_over, pair_judged, judged_all, numbers_told, none_changed, one_changed, changed_within}
 use Rattle.checker.proofs.weighing.judge_pairs.Invariants.{LeftKept}
+use Rattle.checker.proofs.weighing.judge_pairs.Goals.{then-lefts-first+else-found, else-lefts-first, then-ne, else-ne}
 use Rattle.checker.proofs.weighing.judge_pairs.Goals as goal
 
 -- the same of equal ones
-kept_as :
-    (ar ns ts ss : List ℕ) {rule rule' : ℕ} {sums sums' : List ℕ} → rule ≡ rule' → sums ≡ sums' → LeftKept ar ns ts ss rule' sums' → LeftKept ar ns ts ss rule sums
+kept_as : (ar ns ts ss : List ℕ) {rule rule' : Option ℕ} {sums sums' : List ℕ} → rule ≡ rule' → sums ≡ sums' → LeftKept ar ns ts ss rule' sums' →
+    LeftKept ar ns ts ss rule sums
 kept_as ar ns ts ss e f k = rw (e, f) k
 
 -- before the first pair
-none_kept : (ar ns ts ss sums : List ℕ) → length sums ≡ 17 → LeftKept ar ns ts ss 65536 sums
-none_kept ar ns ts ss sums long = record { long = long; is_known = λ h. absurd (h refl) }
+none_kept : (ar ns ts ss sums : List ℕ) → length sums ≡ 17 → LeftKept ar ns ts ss None sums
+none_kept ar ns ts ss sums long = record { long = long; is_known = λ r h. cc }
+
+-- of the rule whose side was summed up
+side_kept : (ar ns ts ss : List ℕ) (rule : ℕ) (sums : List ℕ) → length sums ≡ 17 →
+    SideSummed ar ns ts (get_or ss (2 * rule) 0) (get_or ss (2 * rule + 1) 0 - get_or ss (2 * rule) 0) true sums → LeftKept ar ns ts ss (Some rule) sums
+side_kept ar ns ts ss rule sums long summed = record { long = long; is_known = λ r h. let e : rule ≡ r = cc in rw (← e) summed }
 
 module _ {cert : List ℕ} {from count rules : ℕ} {ar ss ns : List ℕ} (a : PairsAsked cert from count rules ar ss ns) (i : ℕ) where
   abbrev p : System
@@ -88,13 +98,10 @@ module _ {cert : List ℕ} {from count rules : ℕ} {ar ss ns : List ℕ} (a : P
 
 -- what the keeping of the left side comes to, and the verdict on the pair of a turn
 module _ {cert : List ℕ} {from count first number rules : ℕ} {ar ss ns table before : List ℕ} {i : ℕ} (h : i < count) {r : Record}
-    (read : r ≡ record_at cert (8 * (from + i))) {sums : List ℕ} (kept : LeftKept ar ns table ss r.a sums) where
+    (read : r ≡ record_at cert (8 * (from + i))) {sums : List ℕ} (kept : LeftKept ar ns table ss (Some r.a) sums) where
   left_known : (a : PresentAsked cert from count first number rules ar ss ns before) →
       SideSummed ar ns table (get_or ss (2 * r.a) 0) (get_or ss (2 * r.a + 1) 0 - get_or ss (2 * r.a) 0) true sums
-  left_known a =
-      let small = in_rules a.pairs_asked i h read in
-      let few = a.pairs_asked.asked.kept.arrays.laid.few in
-      kept.is_known (λ e. absurd (omega arith))
+  left_known a = kept.is_known r.a refl
 
   its_verdict : {x : PairVerdict} →
       ((there behind : ℕ) (l : Applied ar ns there behind)
@@ -110,206 +117,127 @@ module _ {cert : List ℕ} {from count first number rules : ℕ} {ar ss ns table
       x ≡ pair_verdict (call_over (weighting ws vs) it) (call_rises (weighting ws vs) it) (call_falls (weighting ws vs) it)
   its_verdict answer a ws vs t u small = said a.pairs_asked i h read ws vs small (λ x y o m. answer _ _ x y ws vs (left_known a) t u (λ _. (o, m)))
 
+-- the test whether the left side of a rule is kept
+same_rule : (last : Option ℕ) (n : ℕ) → false ≡ not (option_eq eqb last (Some n)) → last ≡ Some n
+same_rule None n h = absurd (false≢true h)
+same_rule (Some m) n h = ap (λ (k : ℕ). Some k) (eqb-true m n (by_test (eqb m n) (λ e. e) (λ e. absurd (false≢true (h ∙ ap not e)))))
+
 pub loop-i-init : goal.loop-i-init
 loop-i-init c =
-    (omega arith, none_kept _ _ _ _ _ refl, none_changed _ _ _, λ a ws vs t u small. no_pair_judged _ _ _ _ _ _)
+    (none_kept _ _ _ _ _ refl, none_changed _ _ _, λ a ws vs t u small. no_pair_judged _ _ _ _ _ _)
 
 pub overflow_add-first : goal.overflow_add-first
-overflow_add-first c =
-    let has_room : c.args.first + c.args.count ≤ 2048 = omega (arith, c.requires.numbers.room, c.requires.pairs_asked.counted) in
-    let its_room : c.args.first + c.loop-i.i < 2048 = omega (arith, has_room, c.loop-i-test.true) in
-    record { fits = omega (arith, its_room) }
+overflow_add-first c = record { fits = omega (arith, c.requires.numbers.room, c.requires.pairs_asked.counted, c.loop-i-test.true) }
 
 pub bounds-lefts-first : goal.bounds-lefts-first
-bounds-lefts-first c =
-    let has_room : c.args.first + c.args.count ≤ 2048 = omega (arith, c.requires.numbers.room, c.requires.pairs_asked.counted) in
-    let its_room : c.args.first + c.loop-i.i < 2048 = omega (arith, has_room, c.loop-i-test.true) in
-    its_room
+bounds-lefts-first c = omega (arith, c.requires.numbers.room, c.requires.pairs_asked.counted, c.loop-i-test.true)
 
 pub overflow_add-from : goal.overflow_add-from
-overflow_add-from c =
-    let its_record : c.args.from + c.loop-i.i < length c.args.certificate.now / 8 = within c.requires.pairs_asked c.loop-i.i c.loop-i-test.true in
-    omega (arith, its_record)
+overflow_add-from c = omega (arith, within c.requires.pairs_asked c.loop-i.i c.loop-i-test.true)
 
 pub overflow_mul-from : goal.overflow_mul-from
-overflow_mul-from c =
-    let its_record : c.args.from + c.loop-i.i < length c.args.certificate.now / 8 = within c.requires.pairs_asked c.loop-i.i c.loop-i-test.true in
-    omega (arith, its_record)
+overflow_mul-from c = omega (arith, within c.requires.pairs_asked c.loop-i.i c.loop-i-test.true)
 
 pub record_at-r-requires : goal.record_at-r-requires
-record_at-r-requires c =
-    let its_record : c.args.from + c.loop-i.i < length c.args.certificate.now / 8 = within c.requires.pairs_asked c.loop-i.i c.loop-i-test.true in
-    omega (arith, its_record)
+record_at-r-requires c = omega (arith, within c.requires.pairs_asked c.loop-i.i c.loop-i-test.true)
+
+-- the record's rule is one
+its_rule : {cert : List ℕ} {from count rules : ℕ} {ar ss ns : List ℕ} (a : PairsAsked cert from count rules ar ss ns) (i : ℕ) → i < count → {r : Record} →
+    r ≡ record_at cert (8 * (from + i)) → {n : ℕ} → n ≡ r.a → 2 * n + 2 < length ss
+its_rule a i h read e = let laid = a.asked.kept.arrays.laid in omega (arith, e, in_rules a i h read, laid.few, laid.starts_long)
 
 pub bounds-starts-rule : goal.bounds-starts-rule
-bounds-starts-rule c =
-    let its_rule : (c.record_at-r.result.a < c.args.rules) × (c.args.rules ≤ 64) × (length c.args.starts.now ≡ 129) = let asked = c.requires.pairs_asked in
-    let laid = asked.asked.kept.arrays.laid in
-    (in_rules asked c.loop-i.i c.loop-i-test.true c.record_at-r.ensures, laid.few, laid.starts_long) in
-    omega (arith, its_rule)
-
-pub overflow_cast-left : goal.overflow_cast-left
-overflow_cast-left c = omega (arith, c.shared_slice_known-then-lefts-first-1.given (2 * c.record_at-r.result.a))
-
-pub overflow_mul-middle : goal.overflow_mul-middle
-overflow_mul-middle c =
-    let its_rule : (c.record_at-r.result.a < c.args.rules) × (c.args.rules ≤ 64) × (length c.args.starts.now ≡ 129) = let asked = c.requires.pairs_asked in
-    let laid = asked.asked.kept.arrays.laid in
-    (in_rules asked c.loop-i.i c.loop-i-test.true c.record_at-r.ensures, laid.few, laid.starts_long) in
-    omega (arith, its_rule)
-
-pub overflow_add-middle : goal.overflow_add-middle
-overflow_add-middle c =
-    let its_rule : (c.record_at-r.result.a < c.args.rules) × (c.args.rules ≤ 64) × (length c.args.starts.now ≡ 129) = let asked = c.requires.pairs_asked in
-    let laid = asked.asked.kept.arrays.laid in
-    (in_rules asked c.loop-i.i c.loop-i-test.true c.record_at-r.ensures, laid.few, laid.starts_long) in
-    omega (arith, its_rule)
-
-pub offset_bounds-starts-rule-then-lefts-first : goal.offset_bounds-starts-rule-then-lefts-first
-offset_bounds-starts-rule-then-lefts-first c =
-    let its_rule : (c.record_at-r.result.a < c.args.rules) × (c.args.rules ≤ 64) × (length c.args.starts.now ≡ 129) = let asked = c.requires.pairs_asked in
-    let laid = asked.asked.kept.arrays.laid in
-    (in_rules asked c.loop-i.i c.loop-i-test.true c.record_at-r.ensures, laid.few, laid.starts_long) in
-    omega (arith, its_rule)
+bounds-starts-rule c = omega (arith, its_rule c.requires.pairs_asked c.loop-i.i c.loop-i-test.true c.record_at-r.ensures c.from-rule.ensures)
 
 pub bounds-starts-rule-then-lefts-first : goal.bounds-starts-rule-then-lefts-first
-bounds-starts-rule-then-lefts-first c =
-    let its_rule : (c.record_at-r.result.a < c.args.rules) × (c.args.rules ≤ 64) × (length c.args.starts.now ≡ 129) = let asked = c.requires.pairs_asked in
-    let laid = asked.asked.kept.arrays.laid in
-    (in_rules asked c.loop-i.i c.loop-i-test.true c.record_at-r.ensures, laid.few, laid.starts_long) in
-    omega (arith, its_rule)
-
-pub overflow_cast-middle : goal.overflow_cast-middle
-overflow_cast-middle c = omega (arith, c.shared_slice_known-then-lefts-first-2-1.given (2 * c.record_at-r.result.a + 1))
-
-pub overflow_mul-end : goal.overflow_mul-end
-overflow_mul-end c =
-    let its_rule : (c.record_at-r.result.a < c.args.rules) × (c.args.rules ≤ 64) × (length c.args.starts.now ≡ 129) = let asked = c.requires.pairs_asked in
-    let laid = asked.asked.kept.arrays.laid in
-    (in_rules asked c.loop-i.i c.loop-i-test.true c.record_at-r.ensures, laid.few, laid.starts_long) in
-    omega (arith, its_rule)
-
-pub overflow_add-end : goal.overflow_add-end
-overflow_add-end c =
-    let its_rule : (c.record_at-r.result.a < c.args.rules) × (c.args.rules ≤ 64) × (length c.args.starts.now ≡ 129) = let asked = c.requires.pairs_asked in
-    let laid = asked.asked.kept.arrays.laid in
-    (in_rules asked c.loop-i.i c.loop-i-test.true c.record_at-r.ensures, laid.few, laid.starts_long) in
-    omega (arith, its_rule)
-
-pub offset_bounds-starts-rule-then-lefts-first-2 : goal.offset_bounds-starts-rule-then-lefts-first-2
-offset_bounds-starts-rule-then-lefts-first-2 c =
-    let its_rule : (c.record_at-r.result.a < c.args.rules) × (c.args.rules ≤ 64) × (length c.args.starts.now ≡ 129) = let asked = c.requires.pairs_asked in
-    let laid = asked.asked.kept.arrays.laid in
-    (in_rules asked c.loop-i.i c.loop-i-test.true c.record_at-r.ensures, laid.few, laid.starts_long) in
-    omega (arith, its_rule)
+bounds-starts-rule-then-lefts-first c = omega (arith, its_rule c.requires.pairs_asked c.loop-i.i c.loop-i-test.true c.record_at-r.ensures c.from-rule.ensures)
 
 pub bounds-starts-rule-then-lefts-first-2 : goal.bounds-starts-rule-then-lefts-first-2
-bounds-starts-rule-then-lefts-first-2 c =
-    let its_rule : (c.record_at-r.result.a < c.args.rules) × (c.args.rules ≤ 64) × (length c.args.starts.now ≡ 129) = let asked = c.requires.pairs_asked in
-    let laid = asked.asked.kept.arrays.laid in
-    (in_rules asked c.loop-i.i c.loop-i-test.true c.record_at-r.ensures, laid.few, laid.starts_long) in
-    omega (arith, its_rule)
-
-pub overflow_cast-end : goal.overflow_cast-end
-overflow_cast-end c = omega (arith, c.shared_slice_known-then-lefts-first-3-1.given (2 * c.record_at-r.result.a + 2))
-
-pub overflow_add-right : goal.overflow_add-right
-overflow_add-right c = omega (arith, c.shared_slice_known-then-lefts-first-2-1.given (2 * c.record_at-r.result.a + 1))
+bounds-starts-rule-then-lefts-first-2 c = its_rule c.requires.pairs_asked c.loop-i.i c.loop-i-test.true c.record_at-r.ensures c.from-rule.ensures
 
 pub marked_side-requires : goal.marked_side-requires
 marked_side-requires c =
     let asked = c.requires.pairs_asked in
+    rw (c.from-left.ensures, c.from-middle.ensures, c.from-rule.ensures)
     (asked.asked.kept.arrays.nodes_long, left_there asked c.loop-i.i c.loop-i-test.true c.record_at-r.ensures, refl)
 
+-- the left side of the record's rule is kept
 pub judge_call-v-requires : goal.judge_call-v-requires
 judge_call-v-requires c =
     let a = c.args in
-    let kept : LeftKept a.arities.now a.nodes.now a.table.now a.starts.now c.record_at-r.result.a c.if-rule-last.sums =
-    ⊎_elim
-    (λ z. kept_as _ _ _ a.starts.now refl z.sums-is (record { long = z.marked_side.ensures.long; is_known = λ _. z.marked_side.ensures.side_summed }))
-    (λ z. kept_as _ _ _ _ z.if-rule-last.false z.sums-is c.loop-i.invariant.1)
-    c.if-rule-last.branch-raw in
+    let kept : LeftKept a.arities.now a.nodes.now a.table.now a.starts.now (Some c.record_at-r.result.a) c.if-ne.sums =
+    elim c.if-ne.branch [
+      | then-ne z ↦
+          kept_as _ _ _ a.starts.now refl z.sums-is
+          (side_kept _ _ _ _ _ _ z.marked_side.ensures.long (rw (c.from-left.ensures, c.from-middle.ensures, c.from-rule.ensures) at z.marked_side.ensures.side_summed))
+      | else-ne z ↦ kept_as _ _ _ a.starts.now (ap (λ (n : ℕ). Some n) (sym c.from-rule.ensures) ∙ sym (same_rule c.loop-i.last c.from-rule.result z.if-ne.ensures)) z.sums-is c.loop-i.invariant.0
+    ] in
     let asked = c.requires.pairs_asked in
+    rw (c.from-middle.ensures, c.from-end.ensures, c.from.ensures, c.from-rule.ensures)
     (asked.asked.kept.arrays.nodes_long, right_there asked c.loop-i.i c.loop-i-test.true c.record_at-r.ensures, kept.long)
 
-pub returns-then-over : goal.returns-then-over
-returns-then-over c =
+pub returns-then-found : goal.returns-then-found
+returns-then-found c =
     let g = c.args in
     let h = c.loop-i-test.true in
     let inv = c.loop-i.invariant in
-    let kept : LeftKept g.arities.now g.nodes.now g.table.now g.starts.now c.record_at-r.result.a c.if-rule-last.sums =
-    ⊎_elim
-    (λ z. kept_as _ _ _ g.starts.now refl z.sums-is (record { long = z.marked_side.ensures.long; is_known = λ _. z.marked_side.ensures.side_summed }))
-    (λ z. kept_as _ _ _ _ z.if-rule-last.false z.sums-is inv.1)
-    c.if-rule-last.branch-raw in
+    let kept : LeftKept g.arities.now g.nodes.now g.table.now g.starts.now (Some c.record_at-r.result.a) c.if-ne.sums =
+    elim c.if-ne.branch [
+      | then-ne z ↦
+          kept_as _ _ _ g.starts.now refl z.sums-is
+          (side_kept _ _ _ _ _ _ z.marked_side.ensures.long (rw (c.from-left.ensures, c.from-middle.ensures, c.from-rule.ensures) at z.marked_side.ensures.side_summed))
+      | else-ne z ↦ kept_as _ _ _ g.starts.now (ap (λ (n : ℕ). Some n) (sym c.from-rule.ensures) ∙ sym (same_rule c.loop-i.last c.from-rule.result z.if-ne.ensures)) z.sums-is inv.0
+    ] in
+    let judged = rw (c.from-middle.ensures, c.from-end.ensures, c.from.ensures, c.from-rule.ensures) at c.judge_call-v.ensures in
     record {
-      others = changed_within inv.2 inv.0;
+      others = changed_within inv.1 (omega arith);
       found = λ a ws vs t u small.
-          pair_over (inv.3 a ws vs t u small) a.numbers inv.2 a.numbered (omega (arith, h, a.pairs_asked.counted)) c.if-lefts-first.true
-          (its_verdict h c.record_at-r.ensures kept c.judge_call-v.ensures a ws vs t u small) c.noted-found.ensures c.if-over.true;
-      numbers = λ a ws vs t u small o r. absurd (true≢false (sym c.if-over.true ∙ o));
+          pair_over (inv.2 a ws vs t u small) a.numbers inv.1 a.numbered (omega (arith, h, a.pairs_asked.counted)) c.if-lefts-first.true
+          (its_verdict h c.record_at-r.ensures kept judged a ws vs t u small) c.noted-found.ensures c.if-found.true;
+      numbers = λ a ws vs t u small o r. absurd (true≢false (sym c.if-found.true ∙ o));
     }
-
-pub overflow_add-first-then-lefts-first : goal.overflow_add-first-then-lefts-first
-overflow_add-first-then-lefts-first c =
-    let has_room : c.args.first + c.args.count ≤ 2048 = omega (arith, c.requires.numbers.room, c.requires.pairs_asked.counted) in
-    let its_room : c.args.first + c.loop-i.i < 2048 = omega (arith, has_room, c.loop-i-test.true) in
-    let its_place : c.args.first + c.loop-i.i < 2048 = its_room in
-    record { fits = omega (arith, its_place) }
-
-pub renumber-requires : goal.renumber-requires
-renumber-requires c =
-    let present_there : get_or c.loop-i.lefts (c.args.first + c.loop-i.i) 0 ≡ c.args.number = c.if-lefts-first.true in
-    let has_room : c.args.first + c.args.count ≤ 2048 = omega (arith, c.requires.numbers.room, c.requires.pairs_asked.counted) in
-    let its_room : c.args.first + c.loop-i.i < 2048 = omega (arith, has_room, c.loop-i-test.true) in
-    let its_place : c.args.first + c.loop-i.i < 2048 = its_room in
-    let a = c.requires in
-    (its_place, omega (arith, a.numbered, a.few), present_there)
-
-pub overflow_add-i : goal.overflow_add-i
-overflow_add-i c =
-    let has_room : c.args.first + c.args.count ≤ 2048 = omega (arith, c.requires.numbers.room, c.requires.pairs_asked.counted) in
-    let its_room : c.args.first + c.loop-i.i < 2048 = omega (arith, has_room, c.loop-i-test.true) in
-    record { fits = omega (arith, its_room) }
-
-pub loop-i-smaller : goal.loop-i-smaller
-loop-i-smaller c = omega (arith, c.loop-i-test.true)
 
 pub loop-i-preserved : goal.loop-i-preserved
 loop-i-preserved c =
     let g = c.args in
     let h = c.loop-i-test.true in
     let inv = c.loop-i.invariant in
-    ⊎_elim
-    (λ w.
-    let kept : LeftKept g.arities.now g.nodes.now g.table.now g.starts.now w.record_at-r.result.a w.if-rule-last.sums =
-    ⊎_elim
-    (λ z. kept_as _ _ _ g.starts.now refl z.sums-is (record { long = z.marked_side.ensures.long; is_known = λ _. z.marked_side.ensures.side_summed }))
-    (λ z. kept_as _ _ _ _ z.if-rule-last.false z.sums-is inv.1)
-    w.if-rule-last.branch-raw in
-    let last_is : w.if-rule-last.last ≡ w.record_at-r.result.a = ⊎_elim (λ z. z.last-is) (λ z. z.last-is ∙ sym z.if-rule-last.false) w.if-rule-last.branch-raw in
-    rw (w.lefts-is ∙ w.renumber.ensures, w.sums-is, w.last-is, w.found-is) (
-      omega (arith, h),
-      kept_as _ _ _ _ last_is refl kept,
-      one_changed c.loop-i.i _ inv.2 (omega arith),
-      λ a ws vs t u small.
-          pair_judged (inv.3 a ws vs t u small) a.numbers inv.2 a.numbered (omega (arith, h, a.pairs_asked.counted)) w.if-lefts-first.true
-          (its_verdict h w.record_at-r.ensures kept w.judge_call-v.ensures a ws vs t u small) w.noted-found.ensures refl w.if-over.false,
-    ))
-    (λ w. rw (w.lefts-is, w.sums-is, w.last-is, w.found-is) (
-      omega (arith, h),
-      inv.1,
-      changed_within inv.2 (omega arith),
-      λ a ws vs t u small. pair_gone (inv.3 a ws vs t u small) a.numbers inv.2 a.numbered (omega (arith, h, a.pairs_asked.counted)) w.if-lefts-first.false,
-    ))
-    c.if-lefts-first.branch-raw
+    elim c.if-lefts-first.branch [
+      | then-lefts-first+else-found w ↦
+          let kept : LeftKept g.arities.now g.nodes.now g.table.now g.starts.now (Some w.record_at-r.result.a) w.if-ne.sums =
+          elim w.if-ne.branch [
+            | then-ne z ↦
+                kept_as _ _ _ g.starts.now refl z.sums-is
+                (side_kept _ _ _ _ _ _ z.marked_side.ensures.long (rw (w.from-left.ensures, w.from-middle.ensures, w.from-rule.ensures) at z.marked_side.ensures.side_summed))
+            | else-ne z ↦ kept_as _ _ _ g.starts.now (ap (λ (n : ℕ). Some n) (sym w.from-rule.ensures) ∙ sym (same_rule c.loop-i.last w.from-rule.result z.if-ne.ensures)) z.sums-is inv.0
+          ] in
+          let last_is : w.if-ne.last ≡ Some w.record_at-r.result.a =
+          elim w.if-ne.branch [
+            | then-ne z ↦ z.last-is ∙ ap (λ (n : ℕ). Some n) w.from-rule.ensures
+            | else-ne z ↦ z.last-is ∙ same_rule c.loop-i.last w.from-rule.result z.if-ne.ensures ∙ ap (λ (n : ℕ). Some n) w.from-rule.ensures
+          ] in
+          let judged = rw (w.from-middle.ensures, w.from-end.ensures, w.from.ensures, w.from-rule.ensures) at w.judge_call-v.ensures in
+          rw (w.lefts-is ∙ w.renumber.ensures, w.sums-is, w.last-is, w.found-is) (
+            kept_as _ _ _ _ last_is refl kept,
+            one_changed c.loop-i.i _ inv.1 (omega arith),
+            λ a ws vs t u small.
+                pair_judged (inv.2 a ws vs t u small) a.numbers inv.1 a.numbered (omega (arith, h, a.pairs_asked.counted)) w.if-lefts-first.true
+                (its_verdict h w.record_at-r.ensures kept judged a ws vs t u small) w.noted-found.ensures refl w.if-found.false,
+          )
+      | else-lefts-first w ↦
+          rw (w.lefts-is, w.sums-is, w.last-is, w.found-is) (
+            inv.0,
+            changed_within inv.1 (omega arith),
+            λ a ws vs t u small. pair_gone (inv.2 a ws vs t u small) a.numbers inv.1 a.numbered (omega (arith, h, a.pairs_asked.counted)) w.if-lefts-first.false,
+          )
+    ]
 
 pub returns : goal.returns
 returns c =
     let inv = c.loop-i.invariant in
     record {
-      others = changed_within inv.2 inv.0;
-      found = λ a ws vs t u small. judged_all (inv.3 a ws vs t u small) (omega (arith, c.loop-i-test.false, a.pairs_asked.counted));
+      others = changed_within inv.1 (omega arith);
+      found = λ a ws vs t u small. judged_all (inv.2 a ws vs t u small) (omega (arith, c.loop-i-test.false, a.pairs_asked.counted));
       numbers = λ a ws vs t u small o r.
-          numbers_told (inv.3 a ws vs t u small) a.numbers inv.2 (omega (arith, c.loop-i-test.false, a.pairs_asked.counted)) r;
+          numbers_told (inv.2 a ws vs t u small) a.numbers inv.1 (omega (arith, c.loop-i-test.false, a.pairs_asked.counted)) r;
     }

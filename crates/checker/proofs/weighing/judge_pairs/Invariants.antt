@@ -3,9 +3,10 @@
 use mathlib.Core.Path.{◌≡◌}
 use mathlib.Core.Bool.{true}
 use mathlib.Core.List.{List}
-use Prim.Native.Nat.{ℕ, ◌+◌, ◌*◌, ◌-◌, ◌≤◌}
+use Prim.Native.Nat.{ℕ, ◌+◌, ◌*◌, ◌-◌}
 use borrow.Author.Rules.{rules}
 use lib.ListN.{length, get_or}
+use Rattle.std.specs.Prelude.{Option, Some}
 use Rattle.polynomials.specs.Polynomials.{Weight}
 use Rattle.weights.specs.Table.{TableIs, MarkedIs}
 use Rattle.weights.specs.Working.{SideSummed}
@@ -15,11 +16,11 @@ use Rattle.checker.proofs.FromStore.{weighting}
 use Rattle.checker.proofs.Tallies.{JudgedTo}
 use Rattle.checker.proofs.weighing.judge_pairs.Given as goal
 
--- the sums are those of the left side of a rule; none is yet where it is 65,536
-pub record LeftKept (arities nodes table starts : List ℕ) (rule : ℕ) (sums : List ℕ) : Type 0 where
+-- the sums are those of the left side of a rule, if they are of any
+pub record LeftKept (arities nodes table starts : List ℕ) (rule : Option ℕ) (sums : List ℕ) : Type 0 where
   pub long : length sums ≡ 17
   pub is_known :
-      (rule ≡ 65536 → ⊥) → SideSummed arities nodes table (get_or starts (2 * rule) 0) (get_or starts (2 * rule + 1) 0 - get_or starts (2 * rule) 0) true sums
+      (r : ℕ) → rule ≡ Some r → SideSummed arities nodes table (get_or starts (2 * r) 0) (get_or starts (2 * r + 1) 0 - get_or starts (2 * r) 0) true sums
 
 -- for all that may have been asked, the pairs before pair i are judged under the weights of the table
 abbrev pub JudgedBefore : (certificate : List ℕ) (from count first number rules : ℕ) (arities starts nodes table before lefts : List ℕ) (i : ℕ) → Tally → Type 0
@@ -30,10 +31,6 @@ JudgedBefore certificate from count first number rules arities starts nodes tabl
 
 abbrev pub invariant-loop-i : goal.invariant-loop-i
 invariant-loop-i l =
-    (l.i ≤ l.count)
-    × LeftKept l.arities l.nodes l.table l.starts l.last l.sums
+    LeftKept l.arities l.nodes l.table l.starts l.last l.sums
     × OthersAsBefore l.first (l.first + l.i) l.initial.lefts l.lefts
     × JudgedBefore l.certificate l.from l.count l.first l.number l.rules l.arities l.starts l.nodes l.table l.initial.lefts l.lefts l.i l.found
-
-abbrev pub decreases-loop-i : goal.decreases-loop-i
-decreases-loop-i l = l.count - l.i

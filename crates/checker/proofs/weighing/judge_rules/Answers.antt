@@ -1,23 +1,24 @@
 -- `checker::weighing::judge_rules` meets its contract. The loop's invariant: the rules from rule i on are left to judge.
-use mathlib.Core.Path.{◌≡◌}
-use mathlib.Core.Bool.{Bool, true, false, not}
-use mathlib.Core.Logic.{⊎_elim}
+use mathlib.Core.Path.{◌≡◌, refl, ap, ◌∙◌}
+use mathlib.Core.Bool.{Bool, true, false, not, cond}
 use mathlib.Core.List.{List, [], ◌∷◌}
 use Prim.Native.Nat.{ℕ, ◌+◌, ◌*◌, ◌-◌, ◌≤◌, ◌<◌}
 use native.Mathlib.Numerals.{add-one}
 use native.Mathlib.Omega.{arith}
 use lib.ListN.{get_or, drop, drop_of_length-le}
 use lib.Seq.{drop-cons}
+use Rattle.rewriting.proofs.Basics.{by_test}
 use Rattle.rewriting.specs.Terms.{System, rule, no_rule}
 use Rattle.weights.specs.declared.Verdict.{Verdict}
 use Rattle.weights.specs.declared.Verdict.TheVariants.{Over, Fails, Holds}
 use Rattle.polynomials.specs.Polynomials.{Weight, Weighting}
 use Rattle.polynomials.specs.Judging.{rule_over, rule_rises}
 use Rattle.weights.specs.Working.{Weighable, verdict}
-use Rattle.checker.specs.Working.{rules_verdict, RulesAsked}
+use Rattle.checker.specs.Working.{fails, rules_verdict, RulesAsked}
 use Rattle.checker.proofs.FromStore.{weighting, left_weighable, right_weighable, rule_answer}
 use Rattle.checker.proofs.Verdicts.{ToJudge, rules_hold, rules_asked, none_judged, some_failed, none_failed, one_over, one_fails, one_holds}
 use Rattle.checker.proofs.weighing.judge_rules.Invariants.{RulesLeft}
+use Rattle.checker.proofs.weighing.judge_rules.Goals.{in-Fails, in-Holds}
 use Rattle.checker.proofs.weighing.judge_rules.Goals as goal
 
 module _
@@ -34,13 +35,13 @@ module _
     none_left : ToJudge (rule_over w) (rules_hold w) p.rules [] failed
     none_left = rw (drop_of_length-le p.rules {i = i} (omega (arith, a.kept.stored.rules_are))) at left
 
-    fails : failed ≡ true → Fails ≡ rules_verdict p ws vs
+    some_fails : failed ≡ true → Fails ≡ rules_verdict p ws vs
     unfolding rules_verdict
-    fails = some_failed (rules_asked w) none_left
+    some_fails = some_failed (rules_asked w) none_left
 
-    holds : failed ≡ false → Holds ≡ rules_verdict p ws vs
+    all_hold : failed ≡ false → Holds ≡ rules_verdict p ws vs
     unfolding rules_verdict
-    holds = none_failed (rules_asked w) none_left
+    all_hold = none_failed (rules_asked w) none_left
 
   -- rule i is judged
   module _ (h : i < rules) {x : Verdict}
@@ -66,49 +67,17 @@ module _
     rule_holds = one_holds (rules_asked w) rule_left is
 
 pub loop-i-init : goal.loop-i-init
-loop-i-init c = (omega arith, λ a ws vs t. none_judged _ _ _)
-
-pub overflow_mul-left : goal.overflow_mul-left
-overflow_mul-left c = omega (arith, c.requires.kept.arrays.laid.few)
-
-pub offset_bounds-starts-i : goal.offset_bounds-starts-i
-offset_bounds-starts-i c = omega (arith, c.requires.kept.arrays.laid.few)
+unfolding fails
+loop-i-init c = (refl, λ a ws vs t. none_judged _ _ _)
 
 pub bounds-starts-i : goal.bounds-starts-i
 bounds-starts-i c = omega (arith, c.requires.kept.arrays.laid)
 
-pub overflow_cast-left : goal.overflow_cast-left
-overflow_cast-left c = omega (arith, c.shared_slice_known-in-loop-i-1.given (2 * c.loop-i.i))
-
-pub overflow_mul-right : goal.overflow_mul-right
-overflow_mul-right c = omega (arith, c.requires.kept.arrays.laid)
-
-pub overflow_add-right : goal.overflow_add-right
-overflow_add-right c = omega (arith, c.requires.kept.arrays.laid)
-
-pub offset_bounds-starts-i-in-loop-i : goal.offset_bounds-starts-i-in-loop-i
-offset_bounds-starts-i-in-loop-i c = omega (arith, c.requires.kept.arrays.laid)
-
 pub bounds-starts-i-in-loop-i : goal.bounds-starts-i-in-loop-i
 bounds-starts-i-in-loop-i c = omega (arith, c.requires.kept.arrays.laid)
 
-pub overflow_cast-right : goal.overflow_cast-right
-overflow_cast-right c = omega (arith, c.shared_slice_known-in-loop-i-2-1.given (2 * c.loop-i.i + 1))
-
-pub overflow_mul-end : goal.overflow_mul-end
-overflow_mul-end c = omega (arith, c.requires.kept.arrays.laid)
-
-pub overflow_add-end : goal.overflow_add-end
-overflow_add-end c = omega (arith, c.requires.kept.arrays.laid)
-
-pub offset_bounds-starts-i-in-loop-i-2 : goal.offset_bounds-starts-i-in-loop-i-2
-offset_bounds-starts-i-in-loop-i-2 c = omega (arith, c.requires.kept.arrays.laid)
-
 pub bounds-starts-i-in-loop-i-2 : goal.bounds-starts-i-in-loop-i-2
 bounds-starts-i-in-loop-i-2 c = omega (arith, c.requires.kept.arrays.laid)
-
-pub overflow_cast-end : goal.overflow_cast-end
-overflow_cast-end c = omega (arith, c.shared_slice_known-in-loop-i-3-1.given (2 * c.loop-i.i + 2))
 
 pub judge_rule-requires : goal.judge_rule-requires
 judge_rule-requires c =
@@ -116,33 +85,39 @@ judge_rule-requires c =
     let kept = c.requires.kept in
     let s = kept.stored in
     let h = c.loop-i-test.true in
-    (kept.arrays.nodes_long, left_weighable s i h, right_weighable s i h)
+    rw (c.from-left.ensures, c.from-right.ensures, c.from-end.ensures) (kept.arrays.nodes_long, left_weighable s i h, right_weighable s i h)
 
 pub returns-in-Over : goal.returns-in-Over
 returns-in-Over c =
     let l = c.loop-i in
+    let said = rw (c.from-left.ensures, c.from-right.ensures, c.from-end.ensures) at c.judge_rule.ensures in
     λ a ws vs t.
     rule_over_limit a ws vs l.i (l.invariant.1 a ws vs t) c.loop-i-test.true
-    (λ x y. c.judge_rule.ensures x y ws vs t)
+    (λ x y. said x y ws vs t)
     c.in-Over.is
 
 pub loop-i-preserved : goal.loop-i-preserved
+unfolding fails
 loop-i-preserved c =
-    let l = c.loop-i in (
-      omega arith,
-      λ a ws vs t.
-          let left = l.invariant.1 a ws vs t in
-          let h = c.loop-i-test.true in
-          ⊎_elim
-          (λ z. rw z.failed-is (rule_fails a ws vs l.i left h (λ x y. c.judge_rule.ensures x y ws vs t) z.in-Fails.is))
-          (λ z. rw z.failed-is (rule_holds a ws vs l.i left h (λ x y. c.judge_rule.ensures x y ws vs t) z.in-Holds.is))
-          c.match-judge_rule.branch-raw,
-    )
-
-pub returns-then-failed : goal.returns-then-failed
-returns-then-failed c =
-    let l = c.loop-i in λ a ws vs t. fails a ws vs l.i (l.invariant.1 a ws vs t) c.loop-i-test.false c.if-failed.true
+    let l = c.loop-i in
+    let h = c.loop-i-test.true in
+    let said = rw (c.from-left.ensures, c.from-right.ensures, c.from-end.ensures) at c.judge_rule.ensures in
+    elim c.match-judge_rule.branch [
+      | in-Fails z ↦
+          rw z.found-is
+          (refl, λ a ws vs t. rule_fails a ws vs l.i (l.invariant.1 a ws vs t) h (λ x y. said x y ws vs t) z.in-Fails.is)
+      | in-Holds z ↦
+          rw z.found-is
+          (l.invariant.0, λ a ws vs t. rule_holds a ws vs l.i (l.invariant.1 a ws vs t) h (λ x y. said x y ws vs t) z.in-Holds.is)
+    ]
 
 pub returns : goal.returns
 returns c =
-    let l = c.loop-i in λ a ws vs t. holds a ws vs l.i (l.invariant.1 a ws vs t) c.loop-i-test.false c.if-failed.false
+    let l = c.loop-i in
+    λ a ws vs t.
+    let left = l.invariant.1 a ws vs t in
+    let past = c.loop-i-test.false in
+    l.invariant.0
+    ∙ by_test (fails l.found)
+    (λ e. ap (λ (b : Bool). cond b Fails Holds) e ∙ some_fails a ws vs l.i left past e)
+    (λ e. ap (λ (b : Bool). cond b Fails Holds) e ∙ all_hold a ws vs l.i left past e)

@@ -1,13 +1,15 @@
 -- `checker::weighing::judge_rules` meets its contract. The loop's invariant: the rules from rule i on are left to judge.
-use mathlib.Core.Bool.{Bool}
+use mathlib.Core.Path.{◌≡◌}
+use mathlib.Core.Bool.{Bool, cond}
 use mathlib.Core.List.{List}
-use Prim.Native.Nat.{ℕ, ◌-◌, ◌≤◌}
+use Prim.Native.Nat.{ℕ}
 use lib.ListN.{drop}
 use Rattle.rewriting.specs.Terms.{System}
 use Rattle.polynomials.specs.Polynomials.{Weight}
 use Rattle.polynomials.specs.Judging.{rule_over}
 use Rattle.weights.specs.Table.{TableIs}
-use Rattle.checker.specs.Working.{RulesAsked}
+use Rattle.weights.specs.declared.Verdict.TheVariants.{Fails, Holds}
+use Rattle.checker.specs.Working.{fails, RulesAsked}
 use Rattle.checker.proofs.FromStore.{weighting}
 use Rattle.checker.proofs.Verdicts.{ToJudge, rules_hold}
 use Rattle.checker.proofs.weighing.judge_rules.Given as goal
@@ -18,8 +20,5 @@ RulesLeft p ws vs i failed = ToJudge (rule_over (weighting ws vs)) (rules_hold (
 
 abbrev pub invariant-loop-i : goal.invariant-loop-i
 invariant-loop-i l =
-    (l.i ≤ l.rules)
-    × ((a : RulesAsked l.rules l.arities l.starts l.nodes) (ws vs : List Weight) → TableIs l.table ws → RulesLeft a.kept.system ws vs l.i l.failed)
-
-abbrev pub decreases-loop-i : goal.decreases-loop-i
-decreases-loop-i l = l.rules - l.i
+    (l.found ≡ cond (fails l.found) Fails Holds)
+    × ((a : RulesAsked l.rules l.arities l.starts l.nodes) (ws vs : List Weight) → TableIs l.table ws → RulesLeft a.kept.system ws vs l.i (fails l.found))

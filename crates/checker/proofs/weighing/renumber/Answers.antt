@@ -1,29 +1,34 @@
--- `checker::weighing::renumber` meets its contract, verdict by verdict: where nothing is written, the number is there already.
+-- `checker::weighing::renumber` meets its contract: where nothing is written, the number is there already.
 use mathlib.Core.Path.{◌≡◌, refl, sym, ap, ◌∙◌}
-use mathlib.Core.List.{List}
-use Prim.Native.Nat.{ℕ}
-use lib.ListN.{get_or, set}
+use mathlib.Core.Bool.{true, false, false≢true}
+use Prim.Native.Nat.{ℕ, ◌+◌}
+use lib.ListN.{set}
 use lib.Seq.{set-get_or}
+use denote.Enum.Bare.{sameb}
+use Rattle.weights.specs.contracts.PairVerdict.{the_type}
 use Rattle.weights.specs.declared.PairVerdict.{PairVerdict}
+use Rattle.weights.specs.declared.PairVerdict.TheVariants.{Over, Rises, Stays, Falls}
 use Rattle.checker.specs.Working.{number_after}
 use Rattle.checker.proofs.weighing.renumber.Goals as goal
 
-as_it_was : (lefts : List ℕ) (at n : ℕ) {v x : PairVerdict} → get_or lefts at 0 ≡ n → v ≡ x → number_after x n ≡ n → lefts ≡ set lefts at (number_after v n)
-as_it_was lefts at n there e same =
-    sym (set-get_or lefts at 0) ∙ ap (set lefts at) (there ∙ sym (ap (λ (y : PairVerdict). number_after y n) e ∙ same))
-
-pub returns-in-Over : goal.returns-in-Over
+next_number : (v : PairVerdict) (n : ℕ) → true ≡ sameb the_type v Stays → n + 1 ≡ number_after v n
 unfolding number_after
-returns-in-Over c = as_it_was _ _ _ c.requires.2 c.in-Over.is refl
+next_number Over n h = absurd (false≢true (sym h))
+next_number Rises n h = absurd (false≢true (sym h))
+next_number Stays n h = refl
+next_number Falls n h = absurd (false≢true (sym h))
 
-pub returns-in-Rises : goal.returns-in-Rises
+same_number : (v : PairVerdict) (n : ℕ) → false ≡ sameb the_type v Stays → n ≡ number_after v n
 unfolding number_after
-returns-in-Rises c = as_it_was _ _ _ c.requires.2 c.in-Rises.is refl
+same_number Over n h = refl
+same_number Rises n h = refl
+same_number Stays n h = absurd (false≢true h)
+same_number Falls n h = refl
 
-pub returns-in-Stays : goal.returns-in-Stays
-unfolding number_after
-returns-in-Stays c = rw c.in-Stays.is
+pub returns-then-eq : goal.returns-then-eq
+returns-then-eq c = ap (set c.args.lefts.now c.args.at) (next_number c.args.v c.args.number c.if-eq.ensures)
 
-pub returns-in-Falls : goal.returns-in-Falls
-unfolding number_after
-returns-in-Falls c = as_it_was _ _ _ c.requires.2 c.in-Falls.is refl
+pub returns-else-eq : goal.returns-else-eq
+returns-else-eq c =
+    let a = c.args in
+    sym (set-get_or a.lefts.now a.at 0) ∙ ap (set a.lefts.now a.at) (c.requires.2 ∙ same_number a.v a.number c.if-eq.ensures)

@@ -54,26 +54,16 @@ file_ends s h past x_read x_other =
     let y_none = none_at_end s.ws_stand past in
     record { same = s.alike (x_none ∙ sym y_none); passed = omega (arith, s.passed, ap length y_none) }
 
-pub returns-then-before-eq0 : goal.returns-then-before-eq0
-returns-then-before-eq0 c = λ z. absurd (omega arith)
-
 pub loop-at-init : goal.loop-at-init
 loop-at-init c = (c.requires, λ vs ws a b. at_first a b)
 
-pub returns-then-fields-eq87 : goal.returns-then-fields-eq87
-returns-then-fields-eq87 c = λ z. absurd (omega arith)
-
-pub returns-then-fields-eq87-2 : goal.returns-then-fields-eq87-2
-returns-then-fields-eq87-2 c = λ z. absurd (omega arith)
-
 pub returns-then-x-y : goal.returns-then-x-y
 returns-then-x-y c =
-    λ z. let l = c.loop-at in
+    let l = c.loop-at in
     record {
-      earlier = omega (arith, c.if-before-eq0.false);
       agree = λ vs ws a b.
           both_end (l.invariant.1 vs ws a b) (omega (arith, l.invariant.0)) c.loop-at-test.true (c.fields.ensures ∙ c.word_at-x.ensures.record_is)
-          (c.fields-then-x-y.ensures ∙ c.word_at-y.ensures.record_is) c.if-fields-eq87.false c.if-fields-eq87-2.false;
+          (c.fields-else-fields-eq87.ensures ∙ c.word_at-y.ensures.record_is) c.if-fields-eq87.false c.if-fields-eq87-2.false;
     }
 
 pub returns-then-fields-ne87 : goal.returns-then-fields-ne87
@@ -81,9 +71,8 @@ returns-then-fields-ne87 c =
     let r : Record = c.fields-in-loop-at.result in
     let here : r ≡ record_at c.args.certificate.now (8 * c.loop-at.i) = c.fields-in-loop-at.ensures ∙ c.word_at-x.ensures.record_is in
     let there : r ≡ record_at c.args.certificate.now (8 * c.loop-at.at) = c.fields-in-loop-at.ensures ∙ ap fields c.if-x-y.false ∙ c.word_at-y.ensures.record_is in
-    λ z. let l = c.loop-at in
+    let l = c.loop-at in
     record {
-      earlier = omega (arith, c.if-before-eq0.false);
       agree = λ vs ws a b.
           both_end (l.invariant.1 vs ws a b) (omega (arith, l.invariant.0)) c.loop-at-test.true here there c.if-fields-ne87.true
           c.if-fields-ne87.true;
@@ -102,14 +91,7 @@ loop-at-preserved c =
 
 pub returns-then-x-ne87 : goal.returns-then-x-ne87
 returns-then-x-ne87 c =
-    λ z. let l = c.loop-at in
+    let l = c.loop-at in
     record {
-      earlier = omega (arith, c.if-before-eq0.false);
       agree = λ vs ws a b. file_ends (l.invariant.1 vs ws a b) c.if-i-n.true c.loop-at-test.false c.record_at-x.ensures c.if-x-ne87.true;
     }
-
-pub returns-else-x-ne87 : goal.returns-else-x-ne87
-returns-else-x-ne87 c = λ z. absurd (omega arith)
-
-pub returns-else-i-n : goal.returns-else-i-n
-returns-else-i-n c = λ z. absurd (omega arith)

@@ -7,9 +7,9 @@ use Rattle.checker.proofs.weighing.store.Goals as goal
 pub returns-then-r-eq87 : goal.returns-then-r-eq87
 returns-then-r-eq87 c =
     let a = c.args in
-    c.put.ensures ∙ ap (λ n. set a.table.now n a.value) (plain_cell a.r.kind a.r.a a.r.b c.if-r-eq87.true)
+    rw c.from-i.ensures at c.put.ensures ∙ ap (λ n. set a.table.now n a.value) (plain_cell a.r.kind a.r.a a.r.b c.if-r-eq87.true)
 
-pub returns : goal.returns
-returns c =
+pub returns-else-r-eq87 : goal.returns-else-r-eq87
+returns-else-r-eq87 c =
     let a = c.args in
-    c.put-2.ensures ∙ ap (λ n. set a.table.now n a.value) (marked_cell a.r.kind a.r.a a.r.b c.if-r-eq87.false)
+    rw c.from-i.ensures at c.put-else-r-eq87.ensures ∙ ap (λ n. set a.table.now n a.value) (marked_cell a.r.kind a.r.a a.r.b c.if-r-eq87.false)
