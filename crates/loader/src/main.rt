@@ -60,71 +60,52 @@ fn tell_arc(console: &Console, answer: ArcAnswer) -> Ended {
     }
 }
 
-fn check(console: &Console, pack_at: usize, certificate_at: usize) -> Ended {
+fn check(console: &Console, pack_at: usize, certificate_at: usize) -> io::Result<Ended> {
     let mut pack = [0u8; PACK_ROOM];
     let mut certificate = [0u8; CERTIFICATE_ROOM];
-    let Ok(n) = files::read_argument(console, pack_at, &mut pack) else {
-        return Ended::Unjudged;
-    };
-    let Ok(m) = files::read_argument(console, certificate_at, &mut certificate) else {
-        return Ended::Unjudged;
-    };
-    tell_checked(
-        console,
-        teldyzhom::check_certificate(&pack[..n], &certificate[..m]),
-    )
+    let n = files::read_argument(console, pack_at, &mut pack)?;
+    let m = files::read_argument(console, certificate_at, &mut certificate)?;
+    let answer = teldyzhom::check_certificate(&pack[..n], &certificate[..m]);
+    Ok(tell_checked(console, answer))
 }
 
-fn pairs_of(console: &Console, pack_at: usize) -> Ended {
+fn pairs_of(console: &Console, pack_at: usize) -> io::Result<Ended> {
     let mut pack = [0u8; PACK_ROOM];
     let mut list = [0u8; LIST_ROOM];
-    let Ok(n) = files::read_argument(console, pack_at, &mut pack) else {
-        return Ended::Unjudged;
-    };
-    match teldyzhom::list_pairs(&pack[..n], &mut list) {
+    let n = files::read_argument(console, pack_at, &mut pack)?;
+    Ok(match teldyzhom::list_pairs(&pack[..n], &mut list) {
         Answer::Refused(x) => refused(console, x),
         Answer::Passed(k) => after(console, printing::pairs(console, &list, k), Ended::Good),
-    }
+    })
 }
 
-fn arc(console: &Console, at: usize) -> Ended
+fn arc(console: &Console, at: usize) -> io::Result<Ended>
     requires { at ≤ 3 }
 {
     let places = [at + 1, at + 2, at + 3, at + 4];
     let numbers = places.map(|i| numbers::argument(console, i));
     let [Some(rule), Some(place), Some(other_rule), Some(other_place)] = numbers else {
-        return usage(console);
+        return Ok(usage(console));
     };
     let mut pack = [0u8; PACK_ROOM];
-    let Ok(n) = files::read_argument(console, at, &mut pack) else {
-        return Ended::Unjudged;
-    };
-    tell_arc(
-        console,
-        teldyzhom::arc_runs(&pack[..n], rule, place, other_rule, other_place),
-    )
+    let n = files::read_argument(console, at, &mut pack)?;
+    let answer = teldyzhom::arc_runs(&pack[..n], rule, place, other_rule, other_place);
+    Ok(tell_arc(console, answer))
 }
 
 // Writes the pack, and then its length as the answer; the pack stays where the answer cannot be told.
-fn give_pack(console: &Console, pack_at: usize, pack: &[u8]) -> Ended {
-    if files::write_argument(console, pack_at, pack).is_err() {
-        return Ended::Unjudged;
-    }
-    after(
-        console,
-        printing::number(console, pack.len() as u64),
-        Ended::Good,
-    )
+fn give_pack(console: &Console, pack_at: usize, pack: &[u8]) -> io::Result<Ended> {
+    files::write_argument(console, pack_at, pack)?;
+    let written = printing::number(console, pack.len() as u64);
+    Ok(after(console, written, Ended::Good))
 }
 
-fn read(console: &Console, text_at: usize, pack_at: usize) -> Ended {
+fn read(console: &Console, text_at: usize, pack_at: usize) -> io::Result<Ended> {
     let mut text = [0u8; TEXT_ROOM];
     let mut pack = [0u8; records::MOST_PACK_BYTES];
-    let Ok(n) = files::read_argument(console, text_at, &mut text) else {
-        return Ended::Unjudged;
-    };
+    let n = files::read_argument(console, text_at, &mut text)?;
     match teldyzhom::read_text(&text[..n], &mut pack) {
-        Answer::Refused(x) => refused(console, x),
+        Answer::Refused(x) => Ok(refused(console, x)),
         Answer::Passed(k) => {
             // All k of them: the answer is never more than the buffer holds.
             give_pack(console, pack_at, &pack[..k.min(pack.len())])
@@ -148,31 +129,32 @@ fn check_list(console: &Console, first: usize, end: usize, ends: u8) -> Ended
 }
 
 // Checks the one pair, the list, or each of the pairs that the arguments from `first` on below `end` name.
-fn check_all(console: &Console, first: usize, end: usize) -> Ended
+fn check_all(console: &Console, first: usize, end: usize) -> io::Result<Ended>
     requires { first + 2 ≤ end }
 {
     if files::is_word(console, first, b"--list") {
-        return check_list(console, first, end, lists::LINE_END);
+        return Ok(check_list(console, first, end, lists::LINE_END));
     }
     if files::is_word(console, first, b"--list0") {
-        return check_list(console, first, end, lists::ZERO);
+        return Ok(check_list(console, first, end, lists::ZERO));
     }
     if end - first == 2 {
         // Standard input has one file.
         if files::is_input(console, first) && files::is_input(console, first + 1) {
-            return usage(console);
+            return Ok(usage(console));
         }
         return check(console, first, first + 1);
     }
     // An odd one is of no pair, and standard input is no file of a run over several.
     if (end - first) % 2 == 1 || names_input(console, first, end) {
-        return usage(console);
+        return Ok(usage(console));
     }
-    runs::check_named(console, first, end)
+    Ok(runs::check_named(console, first, end))
 }
 
-// Answers the question whose verb is argument `at`, of `given` words from the verb on.
-fn answer(console: &Console, at: usize, given: usize) -> Ended
+// Answers the question whose verb is argument `at`, of `given` words from the verb on. It fails where a file could not be read or written,
+// which was told by then.
+fn answer(console: &Console, at: usize, given: usize) -> io::Result<Ended>
     requires at_bound { at ≤ 2 }
     requires given_bound { at + given ≤ greatest }
 {
@@ -186,7 +168,7 @@ fn answer(console: &Console, at: usize, given: usize) -> Ended
         ),
         2 if files::is_word(console, at, b"pairs") => pairs_of(console, at + 1),
         6 if files::is_word(console, at, b"arc") => arc(console, at + 1),
-        _ => usage(console),
+        _ => Ok(usage(console)),
     }
 }
 
@@ -204,7 +186,7 @@ fn status(e: Ended) -> ExitCode
 fn main(rt: HostRuntime) -> ExitCode {
     let console = Console::new(rt);
     let given = files::argument_count(&console).saturating_sub(1);
-    let ended = answer(&console, 1, given);
+    let ended = answer(&console, 1, given).unwrap_or(Ended::Unjudged);
     if console.is_unread() {
         return ExitCode::from(UNREAD);
     }
