@@ -28,7 +28,7 @@ fn side(
     ensures long { length sums.new ≡ 17 }
 {
     let code = nodes[at];
-    let c = code as usize;
+    let c = usize::from(code);
     if MOST_SYMBOLS <= c {
         sums[c - BEFORE_VARIABLES] = 1;
         return;

@@ -69,7 +69,7 @@ pub fn form_at(
     if sums::over(sums) {
         return at;
     }
-    let n = usize::from(arities[nodes[at] as usize]);
+    let n = usize::from(arities[usize::from(nodes[at])]);
     if n == 0 {
         return at + 1;
     }
@@ -77,16 +77,16 @@ pub fn form_at(
     for i in 1..n {
         let code = nodes[next];
         let k = sums::cap(factor * u64::from(table[row + i]));
-        let c = code as usize;
+        let c = usize::from(code);
         // A variable or a constant is weighed in place.
         if MOST_SYMBOLS <= c {
             sums::add(sums, c - BEFORE_VARIABLES, k);
-            next = next + 1;
+            next += 1;
         } else {
             let first = Symbol(u16::from(code)).row();
             if arities[c] == 0 {
                 sums::add(sums, 0, k * u64::from(table[first]));
-                next = next + 1;
+                next += 1;
             } else {
                 next = form_at(sums, k, next, first, table, nodes, arities, end, skips);
             }
@@ -97,7 +97,7 @@ pub fn form_at(
     }
     let code = nodes[next];
     let k = sums::cap(factor * u64::from(table[row + n]));
-    let c = code as usize;
+    let c = usize::from(code);
     if MOST_SYMBOLS <= c {
         sums::add(sums, c - BEFORE_VARIABLES, k);
         return next + 1;

@@ -83,7 +83,7 @@ returns-then-n-eq0 t c =
     let f =
     root_alone _ _ a.table.now _ _ a.row a.factor a.skips a.sums.now c.requires.4 c.requires.1 _
     (rw (← c.from.ensures) c.add.ensures) (sym c.over-2.ensures ∙ c.if-over-2.false) (omega (arith, c.if-factor-eq0.false))
-    (sym (arity_is _ _ c.requires.1) ∙ sym c.from-n.ensures ∙ c.if-n-eq0.true) in
+    (sym (arity_is _ _ c.requires.1) ∙ sym (rw c.from-2.ensures at c.from-n.ensures) ∙ c.if-n-eq0.true) in
     record { bounded = (f.long, f.within); ends = f.ends; means = f.means }
 
 pub loop-i-init : goal.loop-i-init
@@ -92,7 +92,7 @@ loop-i-init t c =
     let added : AddsTo false (set a.sums.now 0 (get_or a.sums.now 0 0 + a.factor * get_or a.table.now a.row 0)) c.add.new.sums =
     rw (← c.from.ensures) c.add.ensures in
     let within : ltb limit (get_or c.add.new.sums 0 0) ≡ false = sym c.over-2.ensures ∙ c.if-over-2.false in
-    let n : c.from-n.result ≡ code_arity a.arities.now (get_or a.nodes.now a.at 0) = c.from-n.ensures ∙ arity_is _ _ c.requires.1 in
+    let n : c.from-n.result ≡ code_arity a.arities.now (get_or a.nodes.now a.at 0) = rw c.from-2.ensures at c.from-n.ensures ∙ arity_is _ _ c.requires.1 in
     record {
       few = omega (arith, n, (root_symbol _ _ _ _ c.requires.0 c.requires.1).few_arguments);
       begun = omega arith;
@@ -162,7 +162,7 @@ overflow_mul-factor-in-loop-i t c = omega (arith, part_small _ c.from-in-loop-i.
 
 pub add-requires-then-c-ge-MOST_SYMBOLS : goal.add-requires-then-c-ge-MOST_SYMBOLS
 add-requires-then-c-ge-MOST_SYMBOLS t c =
-    (omega (arith, byte c.loop-i.invariant c.requires.0, c.if-c-ge-MOST_SYMBOLS.true), c.loop-i.invariant.within, omega (arith, limit_room, taken_small _ _ c.cap-k.ensures))
+    (omega (arith, byte c.loop-i.invariant c.requires.0, (rw c.from-c.ensures at c.if-c-ge-MOST_SYMBOLS.true)), c.loop-i.invariant.within, omega (arith, limit_room, taken_small _ _ c.cap-k.ensures))
 
 pub overflow_mul-k : goal.overflow_mul-k
 overflow_mul-k t c = omega (arith, part_small _ c.from-then-arities-c-eq0.result (taken_small _ _ c.cap-k.ensures) (omega arith))
@@ -177,7 +177,7 @@ overflow_add-next-then-arities-c-eq0 t c = omega (arith, c.requires.5, begins c.
 pub form_at-next-requires : goal.form_at-next-requires
 form_at-next-requires t c =
     let u = c.loop-i.invariant in
-    let low = c.if-c-ge-MOST_SYMBOLS.false in
+    let low = (rw c.from-c.ensures at c.if-c-ge-MOST_SYMBOLS.false) in
     (omega (arith, c.decreases, fewer u c.requires.0), (argument u c.requires.0, low, omega (arith, c.row-first.ensures, low), taken_small _ _ c.cap-k.ensures, u.within, c.requires.5))
 
 pub returns-then-over-3-clause-means : goal.returns-then-over-3-clause-means
@@ -193,20 +193,20 @@ returns-then-over-3-clause-means t c =
       | then-c-ge-MOST_SYMBOLS w ↦
           rw (w.sums-is, w.next-is)
           (variable_weighed _ _ _ _ _ v _ _ _ _ l.invariant.within.long
-          w.if-c-ge-MOST_SYMBOLS.true w.add-then-c-ge-MOST_SYMBOLS.ensures)
+          (rw c.from-c.ensures at w.if-c-ge-MOST_SYMBOLS.true) (rw c.from-c.ensures at w.add-then-c-ge-MOST_SYMBOLS.ensures))
       | else-c-ge-MOST_SYMBOLS+then-arities-c-eq0 w ↦
           let own = w.from-then-arities-c-eq0.ensures in
           let small : w.from-then-arities-c-eq0.result < 65536 = omega arith in
           let first = rw w.from-else-c-ge-MOST_SYMBOLS.ensures at w.row-first.ensures in
           rw (w.sums-is, w.next-is)
           (constant_weighed _ _ _ _ _ v _ _ _ _ l.invariant.within.long
-          w.if-c-ge-MOST_SYMBOLS.false w.if-arities-c-eq0.true (rw (own, first) at small)
+          (rw c.from-c.ensures at w.if-c-ge-MOST_SYMBOLS.false) (rw c.from-c.ensures at w.if-arities-c-eq0.true) (rw (own, first) at small)
           (rw (own, first) at w.add-then-arities-c-eq0.ensures))
       | else-c-ge-MOST_SYMBOLS+else-arities-c-eq0 w ↦
           let e = w.form_at-next.ensures in
           rw (w.sums-is, w.next-is)
           (call_weighed _ _ _ _ _ v _ _ _ _ _ _ (rw w.from-else-c-ge-MOST_SYMBOLS.ensures at w.row-first.ensures)
-          w.if-c-ge-MOST_SYMBOLS.false e.bounded.0 e.bounded.1 e.ends e.means)
+          (rw c.from-c.ensures at w.if-c-ge-MOST_SYMBOLS.false) e.bounded.0 e.bounded.1 e.ends e.means)
     ] in
     (passes l.invariant c.requires.0 c.requires.4 c.requires.1 _ (rw c.from-in-loop-i.ensures at c.cap-k.ensures) _ _ weighed
     (sym c.over-in-loop-i.ensures ∙ c.if-over-3.true)).means
@@ -224,20 +224,20 @@ loop-i-preserved t c =
       | then-c-ge-MOST_SYMBOLS w ↦
           rw (w.sums-is, w.next-is)
           (variable_weighed _ _ _ _ _ v _ _ _ _ l.invariant.within.long
-          w.if-c-ge-MOST_SYMBOLS.true w.add-then-c-ge-MOST_SYMBOLS.ensures)
+          (rw c.from-c.ensures at w.if-c-ge-MOST_SYMBOLS.true) (rw c.from-c.ensures at w.add-then-c-ge-MOST_SYMBOLS.ensures))
       | else-c-ge-MOST_SYMBOLS+then-arities-c-eq0 w ↦
           let own = w.from-then-arities-c-eq0.ensures in
           let small : w.from-then-arities-c-eq0.result < 65536 = omega arith in
           let first = rw w.from-else-c-ge-MOST_SYMBOLS.ensures at w.row-first.ensures in
           rw (w.sums-is, w.next-is)
           (constant_weighed _ _ _ _ _ v _ _ _ _ l.invariant.within.long
-          w.if-c-ge-MOST_SYMBOLS.false w.if-arities-c-eq0.true (rw (own, first) at small)
+          (rw c.from-c.ensures at w.if-c-ge-MOST_SYMBOLS.false) (rw c.from-c.ensures at w.if-arities-c-eq0.true) (rw (own, first) at small)
           (rw (own, first) at w.add-then-arities-c-eq0.ensures))
       | else-c-ge-MOST_SYMBOLS+else-arities-c-eq0 w ↦
           let e = w.form_at-next.ensures in
           rw (w.sums-is, w.next-is)
           (call_weighed _ _ _ _ _ v _ _ _ _ _ _ (rw w.from-else-c-ge-MOST_SYMBOLS.ensures at w.row-first.ensures)
-          w.if-c-ge-MOST_SYMBOLS.false e.bounded.0 e.bounded.1 e.ends e.means)
+          (rw c.from-c.ensures at w.if-c-ge-MOST_SYMBOLS.false) e.bounded.0 e.bounded.1 e.ends e.means)
     ] in
     goes_on l.invariant c.requires.0 c.requires.4 c.requires.1 _ (rw c.from-in-loop-i.ensures at c.cap-k.ensures) _ _ weighed c.loop-i-test.true
     (sym c.over-in-loop-i.ensures ∙ c.if-over-3.false)
@@ -248,11 +248,11 @@ pub bounds-nodes-next-2 : goal.bounds-nodes-next-2
 bounds-nodes-next-2 t c = omega (arith, c.requires.5, begins c.loop-i.invariant c.requires.0)
 
 pub overflow_mul-factor-2 : goal.overflow_mul-factor-2
-overflow_mul-factor-2 t c = omega (arith, part_small _ c.from-2.result c.requires.3 (omega arith))
+overflow_mul-factor-2 t c = omega (arith, part_small _ c.from-3.result c.requires.3 (omega arith))
 
 pub add-requires-then-c-ge-MOST_SYMBOLS-2 : goal.add-requires-then-c-ge-MOST_SYMBOLS-2
 add-requires-then-c-ge-MOST_SYMBOLS-2 t c =
-    (omega (arith, byte c.loop-i.invariant c.requires.0, c.if-c-ge-MOST_SYMBOLS-2.true), c.loop-i.invariant.within, omega (arith, limit_room, taken_small _ _ c.cap-k-2.ensures))
+    (omega (arith, byte c.loop-i.invariant c.requires.0, (rw c.from-c-2.ensures at c.if-c-ge-MOST_SYMBOLS-2.true)), c.loop-i.invariant.within, omega (arith, limit_room, taken_small _ _ c.cap-k-2.ensures))
 
 pub returns-then-c-ge-MOST_SYMBOLS-2 : goal.returns-then-c-ge-MOST_SYMBOLS-2
 returns-then-c-ge-MOST_SYMBOLS-2 t c =
@@ -260,10 +260,10 @@ returns-then-c-ge-MOST_SYMBOLS-2 t c =
     let l = c.loop-i in
     let is_last : l.i ≡ c.from-n.result = omega (arith, l.invariant.more, c.loop-i-test.false) in
     let f =
-    last l.invariant c.requires.0 c.requires.4 c.requires.1 _ (rw (c.from-2.ensures, ← is_last) at c.cap-k-2.ensures) _ _
+    last l.invariant c.requires.0 c.requires.4 c.requires.1 _ (rw (c.from-3.ensures, ← is_last) at c.cap-k-2.ensures) _ _
     (λ v.
     variable_weighed _ _ _ _ _ v _ _ _ _ l.invariant.within.long
-    c.if-c-ge-MOST_SYMBOLS-2.true c.add-then-c-ge-MOST_SYMBOLS-2.ensures) is_last in
+    (rw c.from-c-2.ensures at c.if-c-ge-MOST_SYMBOLS-2.true) (rw c.from-c-2.ensures at c.add-then-c-ge-MOST_SYMBOLS-2.ensures)) is_last in
     record { bounded = (f.long, f.within); ends = f.ends; means = f.means }
 
 pub overflow_mul-k-then-arities-c-eq0-2 : goal.overflow_mul-k-then-arities-c-eq0-2
@@ -284,19 +284,19 @@ returns-then-arities-c-eq0-2 t c =
     let is_last : l.i ≡ c.from-n.result = omega (arith, l.invariant.more, c.loop-i-test.false) in
     let own = c.from-then-arities-c-eq0-2.ensures in
     let small : c.from-then-arities-c-eq0-2.result < 65536 = omega arith in
-    let first = rw c.from-3.ensures at c.row-first-2.ensures in
+    let first = rw c.from-4.ensures at c.row-first-2.ensures in
     let f =
-    last l.invariant c.requires.0 c.requires.4 c.requires.1 _ (rw (c.from-2.ensures, ← is_last) at c.cap-k-2.ensures) _ _
+    last l.invariant c.requires.0 c.requires.4 c.requires.1 _ (rw (c.from-3.ensures, ← is_last) at c.cap-k-2.ensures) _ _
     (λ v.
     constant_weighed _ _ _ _ _ v _ _ _ _ l.invariant.within.long
-    c.if-c-ge-MOST_SYMBOLS-2.false c.if-arities-c-eq0-2.true (rw (own, first) at small)
+    (rw c.from-c-2.ensures at c.if-c-ge-MOST_SYMBOLS-2.false) (rw c.from-c-2.ensures at c.if-arities-c-eq0-2.true) (rw (own, first) at small)
     (rw (own, first) at c.add-then-arities-c-eq0-2.ensures)) is_last in
     record { bounded = (f.long, f.within); ends = f.ends; means = f.means }
 
 pub form_at-requires : goal.form_at-requires
 form_at-requires t c =
     let u = c.loop-i.invariant in
-    let low = c.if-c-ge-MOST_SYMBOLS-2.false in
+    let low = (rw c.from-c-2.ensures at c.if-c-ge-MOST_SYMBOLS-2.false) in
     (omega (arith, c.decreases, fewer u c.requires.0), (argument u c.requires.0, low, omega (arith, c.row-first-2.ensures, low), taken_small _ _ c.cap-k-2.ensures, u.within, c.requires.5))
 
 pub returns : goal.returns
@@ -306,8 +306,8 @@ returns t c =
     let is_last : l.i ≡ c.from-n.result = omega (arith, l.invariant.more, c.loop-i-test.false) in
     let e = c.form_at.ensures in
     let f =
-    last l.invariant c.requires.0 c.requires.4 c.requires.1 _ (rw (c.from-2.ensures, ← is_last) at c.cap-k-2.ensures) _ _
+    last l.invariant c.requires.0 c.requires.4 c.requires.1 _ (rw (c.from-3.ensures, ← is_last) at c.cap-k-2.ensures) _ _
     (λ v.
-    call_weighed _ _ _ _ _ v _ _ _ _ _ _ (rw c.from-3.ensures at c.row-first-2.ensures)
-    c.if-c-ge-MOST_SYMBOLS-2.false e.bounded.0 e.bounded.1 e.ends e.means) is_last in
+    call_weighed _ _ _ _ _ v _ _ _ _ _ _ (rw c.from-4.ensures at c.row-first-2.ensures)
+    (rw c.from-c-2.ensures at c.if-c-ge-MOST_SYMBOLS-2.false) e.bounded.0 e.bounded.1 e.ends e.means) is_last in
     record { bounded = (f.long, f.within); ends = f.ends; means = f.means }

@@ -2,7 +2,7 @@
 use native.Mathlib.Omega.{arith}
 use Rattle.weights.specs.Working.{SideSummed}
 use Rattle.weights.proofs.Arguments.{node_within, root_symbol}
-use Rattle.weights.proofs.Walking.{code_small, applied_low, marked_row_is}
+use Rattle.weights.proofs.Walking.{applied_low, marked_row_is}
 use Rattle.weights.proofs.Verdicts.{application_summed, no_sums}
 use Rattle.weights.proofs.judging.marked_side.Goals as goal
 

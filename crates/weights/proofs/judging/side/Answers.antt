@@ -12,9 +12,6 @@ use Rattle.weights.proofs.judging.side.Goals as goal
 pub bounds-nodes-at : goal.bounds-nodes-at
 bounds-nodes-at c = omega (arith, c.requires.0, (node_within _ _ _ _ c.requires.1).0)
 
-pub overflow_cast-c : goal.overflow_cast-c
-overflow_cast-c c = omega (arith, code_small _ _ _ _ c.requires.1)
-
 pub offset_bounds-sums-c : goal.offset_bounds-sums-c
 offset_bounds-sums-c c = omega (arith, code_small _ _ _ _ c.requires.1)
 
@@ -25,22 +22,23 @@ pub returns-then-c-ge-MOST_SYMBOLS : goal.returns-then-c-ge-MOST_SYMBOLS
 returns-then-c-ge-MOST_SYMBOLS c =
     let a = c.args in
     let b : ℕ = get_or a.nodes.now a.at 0 in
-    let e : b - 63 ≡ suc (b - 64) = (let h = c.if-c-ge-MOST_SYMBOLS.true in omega arith) in
-    let z = c.requires.2 in record {
+    let e : b - 63 ≡ suc (b - 64) = (let h = (rw c.from-c.ensures at c.if-c-ge-MOST_SYMBOLS.true) in omega arith) in
+    let z = c.requires.2 in
+    rw c.from-c.ensures (record {
       summed = λ w ws _.
-          variable_summed ws w.term (b - 64) (root_variable _ _ _ _ w c.if-c-ge-MOST_SYMBOLS.true).0 _
+          variable_summed ws w.term (b - 64) (root_variable _ _ _ _ w (rw c.from-c.ensures at c.if-c-ge-MOST_SYMBOLS.true)).0 _
           (ap (λ n. set a.sums.now n 1) e ∙ ap (λ xs. set xs (suc (b - 64)) 1) z);
       long = length-set a.sums.now (b - 63) 1 ∙ rw z refl;
-    }
+    })
 
 pub form_at-requires : goal.form_at-requires
 form_at-requires c =
-    let low = c.if-c-ge-MOST_SYMBOLS.false in
+    let low = (rw c.from-c.ensures at c.if-c-ge-MOST_SYMBOLS.false) in
     (c.requires.1, low, omega (arith, c.row-row.ensures, low), omega arith, rw c.requires.2 no_sums, c.requires.0)
 
 pub returns : goal.returns
 returns c =
-    let low = c.if-c-ge-MOST_SYMBOLS.false in
+    let low = (rw c.from-c.ensures at c.if-c-ge-MOST_SYMBOLS.false) in
     let e = c.form_at.ensures in record {
       summed = λ w ws t.
           let below = root_symbol _ _ _ _ w low in

@@ -1,7 +1,7 @@
 -- `weights::sums::all_at_least` meets its contract. The loop's invariant: each number from v on is at least the other's exactly if
 -- each of all is.
 use mathlib.Core.Path.{◌≡◌}
-use Prim.Native.Nat.{◌-◌, ◌≤◌}
+use Prim.Native.Nat.{◌≤◌}
 use lib.ListN.{length, drop}
 use Rattle.polynomials.specs.Polynomials.{each_at_least}
 use Rattle.weights.proofs.sums.all_at_least.Given as goal
