@@ -17,7 +17,7 @@ use Rattle.terms.specs.Sides.{Node, flat}
 use Rattle.terms.specs.Kept.{code, codes, Kept, balanced, nodes_room, starts_room, symbols_room}
 use Rattle.packs.specs.PackReading.{node_zeros, node_of, side_count, most_pack_bytes, most_symbols, most_arity, most_rules, variable_count}
 use Rattle.packs.specs.Encoding.{GoodPack}
-use Rattle.pack_reader.specs.declared.Counts.{Counts}
+use Rattle.pack_reader.specs.declared.Pack.{Pack}
 
 -- rule i's left side begins at starts[2i], its right side at starts[2i + 1], and ends where the next left side begins
 pub record RuleAt (starts nodes : List ℕ) (i : ℕ) (r : Rule) : Type 0 where
@@ -232,13 +232,10 @@ RulesRead (passed p) ar x ss ns =
     (outcome_of x ≡ passed (length p.rules)) × (p.arities ≡ ar) × ((i : ℕ) → i < length p.rules → RuleAt ss ns i (rule p i))
 
 -- THE PACK
--- the arrays that are lent to keep it have their lengths
-pub record Room (arities starts nodes flags : List ℕ) : Type 0 where
-  pub arities_long : length arities ≡ symbols_room
-  pub starts_long : length starts ≡ starts_room
-  pub nodes_long : length nodes ≡ nodes_room
-  pub flags_long : length flags ≡ symbols_room
+-- a pack is kept there
+abbrev pub KeptIn : System → Pack → Type 0
+KeptIn p k = Stored p k.symbols k.rules k.arities k.starts k.nodes k.defined
 
-unfoldable pub PackReadAs : Outcome System → Result Counts Refusal → (arities starts nodes flags : List ℕ) → Type 0
-PackReadAs (refused n) x ar ss ns ms = (y : Refusal) × (x ≡ Err y) × (number_of y ≡ n)
-PackReadAs (passed p) x ar ss ns ms = (c : Counts) × (x ≡ Ok c) × Stored p c.symbols c.rules ar ss ns ms
+unfoldable pub PackReadAs : Outcome System → Result (Unit {0}) Refusal → Pack → Type 0
+PackReadAs (refused n) x k = (y : Refusal) × (x ≡ Err y) × (number_of y ≡ n)
+PackReadAs (passed p) x k = (x ≡ Ok tt) × KeptIn p k

@@ -6,9 +6,10 @@ pub mod sides;
 mod symbols;
 
 ghost use Rattle.packs.specs.PackReading.{read_pack};
-ghost use Rattle.pack_reader.specs.Stored.{Room, PackReadAs};
+ghost use Rattle.pack_reader.specs.Stored.{PackReadAs};
 
 use records::{MOST_PACK_BYTES, Refusal};
+use terms::{MOST_SYMBOLS, NODES_ROOM};
 
 // Document 01's limit on a pack's rules.
 pub const MOST_RULES: usize = 64;
@@ -33,25 +34,51 @@ pub enum PackRead {
     Refused(Refusal),
 }
 
-// Reads a pack: its arities, where each side's nodes start, the nodes, and a flag for each defined symbol.
-pub fn read_pack(
-    pack: &[u8],
-    arities: &mut [u8],
-    starts: &mut [u16],
-    nodes: &mut [u8],
-    defined: &mut [u8],
-) -> Result<Counts, Refusal>
-    requires { Room arities.old starts.old nodes.old defined.old }
-    ensures { PackReadAs (read_pack pack.now) result arities.new starts.new nodes.new defined.new }
+// A pack as it is kept: its symbols' arities, where each side's nodes start, the nodes, and a flag for each defined symbol.
+#[derive(Clone, Copy)]
+pub struct Pack {
+    pub symbols: usize,
+    pub rules: usize,
+    pub arities: [u8; MOST_SYMBOLS],
+    pub starts: [u16; STARTS_ROOM],
+    pub nodes: [u8; NODES_ROOM],
+    pub defined: [u8; MOST_SYMBOLS],
+}
+
+impl Pack {
+    // Room for a pack.
+    pub fn new() -> Pack {
+        Pack {
+            symbols: 0,
+            rules: 0,
+            arities: [0; MOST_SYMBOLS],
+            starts: [0; STARTS_ROOM],
+            nodes: [0; NODES_ROOM],
+            defined: [0; MOST_SYMBOLS],
+        }
+    }
+}
+
+// Reads the pack that the file holds.
+pub fn read_pack(file: &[u8], pack: &mut Pack) -> Result<(), Refusal>
+    ensures { PackReadAs (read_pack file.now) result pack.new }
 {
-    if MOST_PACK_BYTES < pack.len() {
+    if MOST_PACK_BYTES < file.len() {
         return Err(Refusal::CutFile);
     }
-    if pack.len() % 8 != 0 {
+    if file.len() % 8 != 0 {
         return Err(Refusal::CutFile);
     }
-    let symbols = symbols::read_symbols(pack, arities)?;
-    let rules = rules::read_rules(pack, symbols, arities, starts, nodes)?;
-    rules::flag_defined(starts, nodes, rules, defined);
-    Ok(Counts { symbols, rules })
+    let symbols = symbols::read_symbols(file, &mut pack.arities)?;
+    let rules = rules::read_rules(
+        file,
+        symbols,
+        &pack.arities,
+        &mut pack.starts,
+        &mut pack.nodes,
+    )?;
+    rules::flag_defined(&pack.starts, &pack.nodes, rules, &mut pack.defined);
+    pack.symbols = symbols;
+    pack.rules = rules;
+    Ok(())
 }

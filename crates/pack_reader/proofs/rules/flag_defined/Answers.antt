@@ -26,8 +26,8 @@ pub loop-i-preserved : goal.loop-i-preserved
 loop-i-preserved c =
     let l = c.loop-i in
     elim c.if-c-lt-MOST_SYMBOLS.branch [
-    | then-c-lt-MOST_SYMBOLS w ↦ rw w.defined-is (length-set l.defined _ 1 ∙ l.invariant.0, flagged_more _ _ l.defined l.i l.invariant.1 l.invariant.0 w.if-c-lt-MOST_SYMBOLS.true)
-    | else-c-lt-MOST_SYMBOLS w ↦ rw w.defined-is (l.invariant.0, flagged_same _ _ l.defined l.i l.invariant.1 w.if-c-lt-MOST_SYMBOLS.false)
+      | then-c-lt-MOST_SYMBOLS w ↦ rw w.defined-is (length-set l.defined _ 1 ∙ l.invariant.0, flagged_more _ _ l.defined l.i l.invariant.1 l.invariant.0 w.if-c-lt-MOST_SYMBOLS.true)
+      | else-c-lt-MOST_SYMBOLS w ↦ rw w.defined-is (l.invariant.0, flagged_same _ _ l.defined l.i l.invariant.1 w.if-c-lt-MOST_SYMBOLS.false)
     ]
 
 pub returns : goal.returns
