@@ -5,10 +5,11 @@ mod steps;
 ghost use Rattle.rewriting.specs.Terms.{System};
 ghost use Rattle.records.specs.Records.{all_records};
 ghost use Rattle.records.specs.Order.{components_start};
-ghost use Rattle.pack_reader.specs.Stored.{Stored};
+ghost use Rattle.pack_reader.specs.Stored.{KeptIn};
 ghost use Rattle.certificates.specs.CertificateReading.{components_from};
 ghost use Rattle.certificate_reader.specs.Working.{CertificateRead, ReadingAsked};
 
+use pack_reader::Pack;
 use records::Refusal;
 use records::order::{Before, End};
 
@@ -29,17 +30,9 @@ pub struct State {
 }
 
 // Reads the components in a certificate of a pack that was read. Answers how many there are.
-pub fn read_components(
-    certificate: &[u8],
-    symbols: usize,
-    rules: usize,
-    arities: &[u8],
-    starts: &[u16],
-    nodes: &[u8],
-    defined: &[u8],
-) -> Result<usize, Refusal>
-    requires { ReadingAsked certificate.now symbols rules arities.now starts.now nodes.now defined.now }
-    ensures { (p : System) → Stored p symbols rules arities.now starts.now nodes.now defined.now → CertificateRead (components_from p components_start (all_records certificate.now)) result }
+pub fn read_components(certificate: &[u8], pack: &Pack) -> Result<usize, Refusal>
+    requires { ReadingAsked certificate.now pack.now.symbols pack.now.rules pack.now.arities pack.now.starts pack.now.nodes pack.now.defined }
+    ensures { (p : System) → KeptIn p pack.now → CertificateRead (components_from p components_start (all_records certificate.now)) result }
 {
     let n = certificate.len() / 8;
     let mut s = State {
@@ -57,7 +50,7 @@ pub fn read_components(
         let Some(r) = records::read_wanted(certificate, 8 * i, s.last, s.due, s.weighted) else {
             return Err(Refusal::StrayRecord);
         };
-        s = steps::step(r, s, symbols, rules, arities, starts, nodes, defined)?;
+        s = steps::step(r, s, pack)?;
     }
     if !records::order::may_end(s.last, End::Certificate, s.due, s.weighted) {
         return Err(Refusal::StrayRecord);

@@ -3,13 +3,14 @@ ghost use Rattle.std.specs.Prelude.{◌≡◌, ◌&&◌, List, ℕ, ◌≤◌, �
 ghost use Rattle.std.proofs.Math.Option.{some};
 ghost use Rattle.rewriting.specs.Terms.{System};
 ghost use Rattle.records.specs.Order.{c_component, p_pair, w_weight, m_marked, l_weighting};
-ghost use Rattle.pack_reader.specs.Stored.{Stored};
+ghost use Rattle.pack_reader.specs.Stored.{KeptIn};
 ghost use Rattle.pair_finder.specs.Walking.{is_defined};
 ghost use Rattle.certificates.specs.Components.{Component, first_weighting};
 ghost use Rattle.certificates.specs.CertificateReading.{CertificateReading, cert_step, component_read, pair_read, weight_read, marked_read, weighting_read};
 ghost use Rattle.certificate_reader.specs.Working.{Mirrors, StepsAs, KeyIs, SteppedAs, PairAsked, PlaceAsked, MarkedPlaceAsked, WeightAsked, MarkedAsked, WeightingAsked, StepAsked};
 
 use crate::State;
+use pack_reader::Pack;
 use records::order::Before;
 use records::{Record, Refusal};
 use terms::{Marked, Symbol};
@@ -79,16 +80,9 @@ fn component(r: Record, s: State) -> Result<State, Refusal>
 }
 
 // P: a rule and a place, rising; 7 where they name no pair.
-fn pair(
-    r: Record,
-    s: State,
-    rules: usize,
-    starts: &[u16],
-    nodes: &[u8],
-    defined: &[u8],
-) -> Result<State, Refusal>
-    requires { PairAsked s rules starts.now nodes.now defined.now }
-    ensures { SteppedAs s result ((p : System) (symbols : ℕ) (arities : List ℕ) (x : CertificateReading) (c : Component) → Stored p symbols rules arities starts.now nodes.now defined.now → Mirrors s x → x.begun ≡ some c → r.kind ≡ p_pair → StepsAs (pair_read p r x c) result) }
+fn pair(r: Record, s: State, pack: &Pack) -> Result<State, Refusal>
+    requires { PairAsked s pack.now.rules pack.now.starts pack.now.nodes pack.now.defined }
+    ensures { SteppedAs s result ((p : System) (x : CertificateReading) (c : Component) → KeptIn p pack.now → Mirrors s x → x.begun ≡ some c → r.kind ≡ p_pair → StepsAs (pair_read p r x c) result) }
 {
     if r.one != 0 {
         return Err(Refusal::StrayRecord);
@@ -100,14 +94,7 @@ fn pair(
     if k <= s.pair_key {
         return Err(Refusal::StrayRecord);
     }
-    let Ok(_) = pair_finder::arcs::place_of(
-        starts,
-        nodes,
-        defined,
-        rules,
-        r.a as usize,
-        r.b as usize,
-    ) else {
+    let Ok(_) = pair_finder::arcs::place_of(pack, r.a as usize, r.b as usize) else {
         return Err(Refusal::NoSuchPair);
     };
     Ok(State {
@@ -119,32 +106,32 @@ fn pair(
 }
 
 // The symbol's constant, or one of its arguments.
-fn is_place(arities: &[u8], symbols: usize, f: Symbol, i: u16) -> bool
-    requires { PlaceAsked symbols arities.now }
-    ensures { result ≡ (ltb f.0 symbols && leb i (get_or arities.now f.0 0)) }
+fn is_place(pack: &Pack, f: Symbol, i: u16) -> bool
+    requires { PlaceAsked pack.now.symbols pack.now.arities }
+    ensures { result ≡ (ltb f.0 pack.now.symbols && leb i (get_or pack.now.arities f.0 0)) }
 {
     let a = f.0 as usize;
-    if symbols <= a {
+    if pack.symbols <= a {
         return false;
     }
-    i <= arities[a] as u16
+    i <= u16::from(pack.arities[a])
 }
 
 // The same of a tuple symbol, which a defined symbol has.
-fn is_marked_place(arities: &[u8], symbols: usize, defined: &[u8], f: Marked, i: u16) -> bool
-    requires { MarkedPlaceAsked symbols arities.now defined.now }
-    ensures { result ≡ ((ltb f.0 symbols && leb i (get_or arities.now f.0 0)) && is_defined defined.now f.0) }
+fn is_marked_place(pack: &Pack, f: Marked, i: u16) -> bool
+    requires { MarkedPlaceAsked pack.now.symbols pack.now.arities pack.now.defined }
+    ensures { result ≡ ((ltb f.0 pack.now.symbols && leb i (get_or pack.now.arities f.0 0)) && is_defined pack.now.defined f.0) }
 {
-    if !is_place(arities, symbols, Symbol(f.0), i) {
+    if !is_place(pack, Symbol(f.0), i) {
         return false;
     }
-    pair_finder::listing::is_defined(defined, f.0 as u8)
+    pair_finder::listing::is_defined(pack, f.0 as u8)
 }
 
 // W: a symbol, a place of it and the value there.
-fn weight(r: Record, s: State, symbols: usize, arities: &[u8]) -> Result<State, Refusal>
-    requires { WeightAsked s symbols arities.now }
-    ensures { SteppedAs s result ((p : System) (rules : ℕ) (starts nodes flags : List ℕ) (x : CertificateReading) (c : Component) → Stored p symbols rules arities.now starts nodes flags → Mirrors s x → x.begun ≡ some c → s.due ≡ 0 → r.kind ≡ w_weight → StepsAs (weight_read p r x c) result) }
+fn weight(r: Record, s: State, pack: &Pack) -> Result<State, Refusal>
+    requires { WeightAsked s pack.now.symbols pack.now.arities }
+    ensures { SteppedAs s result ((p : System) (x : CertificateReading) (c : Component) → KeptIn p pack.now → Mirrors s x → x.begun ≡ some c → s.due ≡ 0 → r.kind ≡ w_weight → StepsAs (weight_read p r x c) result) }
 {
     if r.one != 0 {
         return Err(Refusal::StrayRecord);
@@ -153,7 +140,7 @@ fn weight(r: Record, s: State, symbols: usize, arities: &[u8]) -> Result<State, 
     if k <= s.weight_key {
         return Err(Refusal::StrayRecord);
     }
-    if !is_place(arities, symbols, Symbol(r.a), r.b) {
+    if !is_place(pack, Symbol(r.a), r.b) {
         return Err(Refusal::OutOfRange);
     }
     Ok(State {
@@ -165,15 +152,9 @@ fn weight(r: Record, s: State, symbols: usize, arities: &[u8]) -> Result<State, 
 }
 
 // M: the same of a tuple symbol.
-fn marked(
-    r: Record,
-    s: State,
-    symbols: usize,
-    arities: &[u8],
-    defined: &[u8],
-) -> Result<State, Refusal>
-    requires { MarkedAsked s symbols arities.now defined.now }
-    ensures { SteppedAs s result ((p : System) (rules : ℕ) (starts nodes : List ℕ) (x : CertificateReading) (c : Component) → Stored p symbols rules arities.now starts nodes defined.now → Mirrors s x → x.begun ≡ some c → s.due ≡ 0 → r.kind ≡ m_marked → StepsAs (marked_read p r x c) result) }
+fn marked(r: Record, s: State, pack: &Pack) -> Result<State, Refusal>
+    requires { MarkedAsked s pack.now.symbols pack.now.arities pack.now.defined }
+    ensures { SteppedAs s result ((p : System) (x : CertificateReading) (c : Component) → KeptIn p pack.now → Mirrors s x → x.begun ≡ some c → s.due ≡ 0 → r.kind ≡ m_marked → StepsAs (marked_read p r x c) result) }
 {
     if r.one != 0 {
         return Err(Refusal::StrayRecord);
@@ -182,7 +163,7 @@ fn marked(
     if k <= s.marked_key {
         return Err(Refusal::StrayRecord);
     }
-    if !is_marked_place(arities, symbols, defined, Marked(r.a), r.b) {
+    if !is_marked_place(pack, Marked(r.a), r.b) {
         return Err(Refusal::OutOfRange);
     }
     Ok(State {
@@ -225,31 +206,22 @@ fn weighting(r: Record, s: State) -> Result<State, Refusal>
 }
 
 // One record, of a kind that the table lets stand here.
-pub fn step(
-    r: Record,
-    s: State,
-    symbols: usize,
-    rules: usize,
-    arities: &[u8],
-    starts: &[u16],
-    nodes: &[u8],
-    defined: &[u8],
-) -> Result<State, Refusal>
-    requires { StepAsked r s symbols rules arities.now starts.now nodes.now defined.now }
-    ensures { SteppedAs s result ((p : System) (x : CertificateReading) → Stored p symbols rules arities.now starts.now nodes.now defined.now → Mirrors s x → StepsAs (cert_step p r x) result) }
+pub fn step(r: Record, s: State, pack: &Pack) -> Result<State, Refusal>
+    requires { StepAsked r s pack.now.symbols pack.now.rules pack.now.arities pack.now.starts pack.now.nodes pack.now.defined }
+    ensures { SteppedAs s result ((p : System) (x : CertificateReading) → KeptIn p pack.now → Mirrors s x → StepsAs (cert_step p r x) result) }
 {
     if r.kind == b'C' {
         return component(r, s);
     }
     if r.kind == b'P' {
-        return pair(r, s, rules, starts, nodes, defined);
+        return pair(r, s, pack);
     }
     // W is the only kind above P; tested so, the kinds are compared one by one and need no jump through a table.
     if b'P' < r.kind {
-        return weight(r, s, symbols, arities);
+        return weight(r, s, pack);
     }
     if r.kind == b'M' {
-        return marked(r, s, symbols, arities, defined);
+        return marked(r, s, pack);
     }
     // The table lets no other kind stand.
     weighting(r, s)

@@ -6,29 +6,24 @@ ghost use Rattle.packs.specs.PackReading.{most_symbols};
 ghost use Rattle.packs.specs.Encoding.{pack_bytes, symbol_records};
 ghost use Rattle.pack_writer.specs.Writing.{PackAsked, WritingAsked, written, byte_record, rule_between, RecordsWritten, NodesAsked, RuleAsked};
 
+use pack_reader::Pack;
 use records::Record;
 use terms::FIRST_VARIABLE;
 
 // How many bytes the pack has.
-pub fn pack_length(
-    symbols: usize,
-    rules: usize,
-    arities: &[u8],
-    starts: &[u16],
-    nodes: &[u8],
-) -> usize
-    requires { PackAsked symbols rules arities.now starts.now nodes.now }
-    ensures { (q : PackAsked symbols rules arities.now starts.now nodes.now) → result ≡ length (pack_bytes q.system) }
+pub fn pack_length(pack: &Pack) -> usize
+    requires { PackAsked pack.now.symbols pack.now.rules pack.now.arities pack.now.starts pack.now.nodes }
+    ensures { (q : PackAsked pack.now.symbols pack.now.rules pack.now.arities pack.now.starts pack.now.nodes) → result ≡ length (pack_bytes q.system) }
 {
-    8 * (symbols + rules + starts[2 * rules] as usize)
+    8 * (pack.symbols + pack.rules + pack.starts[2 * pack.rules] as usize)
 }
 
 // Writes the symbols' records from byte 0 on. Answers the byte after them.
-fn write_symbols(out: &mut [u8], symbols: usize, arities: &[u8]) -> usize
-    requires { (symbols ≤ most_symbols) × (length arities.now ≡ symbols_room) × (8 * symbols ≤ length out.old) }
-    ensures { RecordsWritten 0 (symbol_records 0 (take symbols arities.now)) result out.old out.new }
+fn write_symbols(out: &mut [u8], pack: &Pack) -> usize
+    requires { (pack.now.symbols ≤ most_symbols) × (8 * pack.now.symbols ≤ length out.old) }
+    ensures { RecordsWritten 0 (symbol_records 0 (take pack.now.symbols pack.now.arities)) result out.old out.new }
 {
-    for i in 0..symbols {
+    for i in 0..pack.symbols {
         records::write_record(
             out,
             8 * i,
@@ -36,12 +31,12 @@ fn write_symbols(out: &mut [u8], symbols: usize, arities: &[u8]) -> usize
                 kind: b'S',
                 one: 0,
                 a: i as u16,
-                b: arities[i] as u16,
+                b: pack.arities[i] as u16,
                 c: 0,
             },
         );
     }
-    8 * symbols
+    8 * pack.symbols
 }
 
 // A node's record.
@@ -67,13 +62,13 @@ fn node_record(code: u8) -> Record
 }
 
 // Writes the records of some nodes from byte `at` on. Answers the byte after them.
-fn write_nodes(out: &mut [u8], at: usize, nodes: &[u8], from: usize, to: usize) -> usize
-    requires { NodesAsked out.old at nodes.now from to }
-    ensures { RecordsWritten at (map byte_record (part nodes.now from to)) result out.old out.new }
+fn write_nodes(out: &mut [u8], at: usize, pack: &Pack, from: usize, to: usize) -> usize
+    requires { NodesAsked out.old at pack.now.nodes from to }
+    ensures { RecordsWritten at (map byte_record (part pack.now.nodes from to)) result out.old out.new }
 {
     let mut next = at;
     for i in from..to {
-        records::write_record(out, next, node_record(nodes[i]));
+        records::write_record(out, next, node_record(pack.nodes[i]));
         next = next + 8;
     }
     next
@@ -84,13 +79,13 @@ fn write_rule(
     out: &mut [u8],
     at: usize,
     i: usize,
-    nodes: &[u8],
+    pack: &Pack,
     left: usize,
     right: usize,
     end: usize,
 ) -> usize
-    requires { RuleAsked out.old at i nodes.now left right end }
-    ensures { RecordsWritten at (rule_between nodes.now i left right end) result out.old out.new }
+    requires { RuleAsked out.old at i pack.now.nodes left right end }
+    ensures { RecordsWritten at (rule_between pack.now.nodes i left right end) result out.old out.new }
 {
     records::write_record(
         out,
@@ -103,31 +98,24 @@ fn write_rule(
             c: (end - right) as u16,
         },
     );
-    write_nodes(out, at + 8, nodes, left, end)
+    write_nodes(out, at + 8, pack, left, end)
 }
 
 // Writes the pack's bytes: its symbols, then rule after rule.
-pub fn write_pack(
-    out: &mut [u8],
-    symbols: usize,
-    rules: usize,
-    arities: &[u8],
-    starts: &[u16],
-    nodes: &[u8],
-)
-    requires { WritingAsked out.old symbols rules arities.now starts.now nodes.now }
-    ensures { (q : WritingAsked out.old symbols rules arities.now starts.now nodes.now) → out.new ≡ written q.pack.system out.old }
+pub fn write_pack(out: &mut [u8], pack: &Pack)
+    requires { WritingAsked out.old pack.now.symbols pack.now.rules pack.now.arities pack.now.starts pack.now.nodes }
+    ensures { (q : WritingAsked out.old pack.now.symbols pack.now.rules pack.now.arities pack.now.starts pack.now.nodes) → out.new ≡ written q.pack.system out.old }
 {
-    let mut at = write_symbols(out, symbols, arities);
-    for i in 0..rules {
+    let mut at = write_symbols(out, pack);
+    for i in 0..pack.rules {
         at = write_rule(
             out,
             at,
             i,
-            nodes,
-            starts[2 * i] as usize,
-            starts[2 * i + 1] as usize,
-            starts[2 * i + 2] as usize,
+            pack,
+            pack.starts[2 * i] as usize,
+            pack.starts[2 * i + 1] as usize,
+            pack.starts[2 * i + 2] as usize,
         );
     }
 }

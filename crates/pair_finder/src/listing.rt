@@ -4,27 +4,27 @@ ghost use Rattle.terms.specs.Kept.{part, symbols_room};
 ghost use Rattle.pairs.specs.Listing.{a_pair, pair_bytes};
 ghost use Rattle.pair_finder.specs.Walking.{is_defined, places, first_pairs, Laid, Written};
 
+use pack_reader::Pack;
 use records::Record;
 use terms::MOST_SYMBOLS;
 
 // The node applies a defined symbol.
 #[tactic(auto, unfolding(crate::specs::Walking::is_defined))]
-pub fn is_defined(defined: &[u8], code: u8) -> bool
-    requires { length defined.now ≡ symbols_room }
-    ensures { result ≡ is_defined defined.now code }
+pub fn is_defined(pack: &Pack, code: u8) -> bool
+    ensures { result ≡ is_defined pack.now.defined code }
 {
     let c = usize::from(code);
-    c < MOST_SYMBOLS && defined[c] == 1
+    c < MOST_SYMBOLS && pack.defined[c] == 1
 }
 
 // How many nodes of a side apply a defined symbol.
-fn count_in(nodes: &[u8], defined: &[u8], from: usize, to: usize) -> usize
-    requires { (from ≤ to) × (to ≤ length nodes.now) × (length defined.now ≡ symbols_room) }
-    ensures { result ≡ length (places defined.now 0 (part nodes.now from to)) }
+fn count_in(pack: &Pack, from: usize, to: usize) -> usize
+    requires { (from ≤ to) × (to ≤ length pack.now.nodes) }
+    ensures { result ≡ length (places pack.now.defined 0 (part pack.now.nodes from to)) }
 {
     let mut n = 0;
     for i in from..to {
-        if is_defined(defined, nodes[i]) {
+        if is_defined(pack, pack.nodes[i]) {
             n += 1;
         }
     }
@@ -32,35 +32,27 @@ fn count_in(nodes: &[u8], defined: &[u8], from: usize, to: usize) -> usize
 }
 
 // How many pairs there are.
-pub fn count_pairs(starts: &[u16], nodes: &[u8], defined: &[u8], rules: usize) -> usize
-    requires { Laid starts.now nodes.now rules × (length defined.now ≡ symbols_room) }
-    ensures { result ≡ length (first_pairs starts.now nodes.now defined.now rules) }
+pub fn count_pairs(pack: &Pack) -> usize
+    requires { Laid pack.now.starts pack.now.nodes pack.now.rules }
+    ensures { result ≡ length (first_pairs pack.now.starts pack.now.nodes pack.now.defined pack.now.rules) }
 {
     let mut n = 0;
-    for i in 0..rules {
-        let from = usize::from(starts[2 * i + 1]);
-        let to = usize::from(starts[2 * i + 2]);
-        n += count_in(nodes, defined, from, to);
+    for i in 0..pack.rules {
+        let from = usize::from(pack.starts[2 * i + 1]);
+        let to = usize::from(pack.starts[2 * i + 2]);
+        n += count_in(pack, from, to);
     }
     n
 }
 
 // Writes the records of rule `rule`'s pairs from byte `at` on. Answers the byte after them.
-fn write_in(
-    list: &mut [u8],
-    at: usize,
-    rule: usize,
-    nodes: &[u8],
-    defined: &[u8],
-    from: usize,
-    to: usize,
-) -> usize
-    requires { (rule < 64) × (from ≤ to) × (to ≤ from + 32) × (to ≤ length nodes.now) × (length defined.now ≡ symbols_room) × (at + 8 * length (places defined.now 0 (part nodes.now from to)) ≤ length list.old) }
-    ensures { Written at (map (a_pair rule) (places defined.now 0 (part nodes.now from to))) result list.old list.new }
+fn write_in(list: &mut [u8], at: usize, pack: &Pack, rule: usize, from: usize, to: usize) -> usize
+    requires { (rule < 64) × (from ≤ to) × (to ≤ from + 32) × (to ≤ length pack.now.nodes) × (at + 8 * length (places pack.now.defined 0 (part pack.now.nodes from to)) ≤ length list.old) }
+    ensures { Written at (map (a_pair rule) (places pack.now.defined 0 (part pack.now.nodes from to))) result list.old list.new }
 {
     let mut next = at;
     for i in from..to {
-        if is_defined(defined, nodes[i]) {
+        if is_defined(pack, pack.nodes[i]) {
             records::write_record(
                 list,
                 next,
@@ -79,14 +71,14 @@ fn write_in(
 }
 
 // Writes all records.
-pub fn write_pairs(list: &mut [u8], starts: &[u16], nodes: &[u8], defined: &[u8], rules: usize)
-    requires { Laid starts.now nodes.now rules × (length defined.now ≡ symbols_room) × (8 * length (first_pairs starts.now nodes.now defined.now rules) ≤ length list.old) }
-    ensures { list.new ≡ pair_bytes (first_pairs starts.now nodes.now defined.now rules) ++ drop (8 * length (first_pairs starts.now nodes.now defined.now rules)) list.old }
+pub fn write_pairs(list: &mut [u8], pack: &Pack)
+    requires { Laid pack.now.starts pack.now.nodes pack.now.rules × (8 * length (first_pairs pack.now.starts pack.now.nodes pack.now.defined pack.now.rules) ≤ length list.old) }
+    ensures { list.new ≡ pair_bytes (first_pairs pack.now.starts pack.now.nodes pack.now.defined pack.now.rules) ++ drop (8 * length (first_pairs pack.now.starts pack.now.nodes pack.now.defined pack.now.rules)) list.old }
 {
     let mut at = 0;
-    for i in 0..rules {
-        let from = usize::from(starts[2 * i + 1]);
-        let to = usize::from(starts[2 * i + 2]);
-        at = write_in(list, at, i, nodes, defined, from, to);
+    for i in 0..pack.rules {
+        let from = usize::from(pack.starts[2 * i + 1]);
+        let to = usize::from(pack.starts[2 * i + 2]);
+        at = write_in(list, at, pack, i, from, to);
     }
 }

@@ -33,7 +33,7 @@ loop-i-preserved c =
       omega arith,
       c.write_record.auto.list ∙ l.invariant.2,
       omega arith,
-      node_written _ _ l.next l.i c.args.nodes.now _ l.out _ l.invariant.0 (omega (arith, asked.within)) (omega (arith, asked.fits)) l.invariant.4
+      node_written _ _ l.next l.i c.args.pack.now.nodes _ l.out _ l.invariant.0 (omega (arith, asked.within)) (omega (arith, asked.fits)) l.invariant.4
           _ c.node_record.ensures c.write_record.ensures,
     )
 

@@ -9,4 +9,4 @@ use Rattle.pack_writer.proofs.write_nodes.Given as goal
 
 abbrev pub invariant-loop-i : goal.invariant-loop-i
 invariant-loop-i l =
-    (l.from ≤ l.i) × (l.i ≤ l.to) × (length l.out ≡ length l.initial.out) × (l.next ≡ l.at + 8 * (l.i - l.from)) × RecordsWritten l.at (map byte_record (part l.nodes l.from l.i)) l.next l.initial.out l.out
+    (l.from ≤ l.i) × (l.i ≤ l.to) × (length l.out ≡ length l.initial.out) × (l.next ≡ l.at + 8 * (l.i - l.from)) × RecordsWritten l.at (map byte_record (part l.pack.nodes l.from l.i)) l.next l.initial.out l.out

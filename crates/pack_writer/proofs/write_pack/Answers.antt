@@ -58,23 +58,11 @@ module _ (o s : List ℕ) (symbols rules : ℕ) (ar ss ns : List ℕ) (q : Writi
 pub write_symbols-at-requires : goal.write_symbols-at-requires
 write_symbols-at-requires c =
     let q = c.requires in
-    (q.pack.symbols_few, q.pack.arities_long, omega (arith, q.fits, pack_long q.pack.system _ _ _ _ _ q.pack.writable))
+    (q.pack.symbols_few, omega (arith, q.fits, pack_long q.pack.system _ _ _ _ _ q.pack.writable))
 
 pub loop-i-init : goal.loop-i-init
 unfolding kept_rules
 loop-i-init c = (omega arith, refl, written_none _ _)
-
-pub overflow_cast-starts : goal.overflow_cast-starts
-unfolding kept_rules
-overflow_cast-starts c = omega (arith, c.shared_slice_known-in-loop-i-1.given (2 * c.loop-i.i))
-
-pub overflow_cast-starts-in-loop-i : goal.overflow_cast-starts-in-loop-i
-unfolding kept_rules
-overflow_cast-starts-in-loop-i c = omega (arith, c.shared_slice_known-in-loop-i-2-1.given (2 * c.loop-i.i + 1))
-
-pub overflow_cast-starts-in-loop-i-2 : goal.overflow_cast-starts-in-loop-i-2
-unfolding kept_rules
-overflow_cast-starts-in-loop-i-2 c = omega (arith, c.shared_slice_known-in-loop-i-3-1.given (2 * c.loop-i.i + 2))
 
 pub write_rule-at-requires : goal.write_rule-at-requires
 write_rule-at-requires c =
@@ -93,5 +81,5 @@ loop-i-preserved c =
 pub returns : goal.returns
 returns c =
     λ q. let l = c.loop-i in
-    let e : l.i ≡ c.args.rules = omega arith in
+    let e : l.i ≡ c.args.pack.now.rules = omega arith in
     all_written _ _ _ _ _ _ _ q _ c.write_symbols-at.auto.out c.write_symbols-at.ensures l.at l.out (rw (← e) l.invariant.2)

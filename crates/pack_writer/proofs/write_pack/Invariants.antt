@@ -7,4 +7,4 @@ use Rattle.pack_writer.proofs.write_pack.Given as goal
 
 abbrev pub invariant-loop-i : goal.invariant-loop-i
 invariant-loop-i l =
-    (l.i ≤ l.rules) × (length l.out ≡ length l.initial.out) × RecordsWritten l.initial.at (kept_rules l.starts l.nodes l.i) l.at l.initial.out l.out
+    (l.i ≤ l.pack.rules) × (length l.out ≡ length l.initial.out) × RecordsWritten l.initial.at (kept_rules l.pack.starts l.pack.nodes l.i) l.at l.initial.out l.out

@@ -11,22 +11,18 @@ pub loop-i-init : goal.loop-i-init
 unfolding symbol_records
 loop-i-init c = (omega arith, refl, written_none 0 _)
 
-pub overflow_cast-arities : goal.overflow_cast-arities
-unfolding symbol_records
-overflow_cast-arities c = omega (arith, c.shared_slice_known-in-loop-i-1.given c.loop-i.i)
-
 pub loop-i-preserved : goal.loop-i-preserved
 loop-i-preserved c =
     let l = c.loop-i in
     let e : 8 * (l.i + 1) ≡ 8 * l.i + 8 = omega arith in (
       omega arith,
       c.write_record.auto.list ∙ l.invariant.1,
-      rw (e, symbols_more c.args.arities.now l.i (omega arith))
+      rw (e, symbols_more c.args.pack.now.arities l.i (omega arith))
           (written_more 0 (8 * l.i) _ _ l.out l.invariant.2 (omega arith) _ _ c.write_record.ensures),
     )
 
 pub returns : goal.returns
 returns c =
     let l = c.loop-i in
-    let e : l.i ≡ c.args.symbols = omega arith in
+    let e : l.i ≡ c.args.pack.now.symbols = omega arith in
     rw (← e) l.invariant.2

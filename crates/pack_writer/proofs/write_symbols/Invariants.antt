@@ -8,4 +8,4 @@ use Rattle.pack_writer.proofs.write_symbols.Given as goal
 
 abbrev pub invariant-loop-i : goal.invariant-loop-i
 invariant-loop-i l =
-    (l.i ≤ l.symbols) × (length l.out ≡ length l.initial.out) × RecordsWritten 0 (symbol_records 0 (take l.i l.arities)) (8 * l.i) l.initial.out l.out
+    (l.i ≤ l.pack.symbols) × (length l.out ≡ length l.initial.out) × RecordsWritten 0 (symbol_records 0 (take l.i l.pack.arities)) (8 * l.i) l.initial.out l.out

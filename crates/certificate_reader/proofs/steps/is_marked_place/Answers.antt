@@ -12,7 +12,7 @@ pub overflow_cast-f : goal.overflow_cast-f
 overflow_cast-f c =
     let placed = c.is_place in
     let holds = sym placed.ensures ∙ c.if-not-is_place.false in
-    omega (arith, ltb-true c.args.f.0 c.args.symbols (and_left _ _ holds))
+    omega (arith, ltb-true c.args.f.0 c.args.pack.now.symbols (and_left _ _ holds))
 
 pub returns : goal.returns
 returns c =

@@ -34,14 +34,14 @@ named false n e k h = not_passed (sym e ∙ ap outcome_of h)
 pub returns-then-r-ne0 : goal.returns-then-r-ne0
 unfolding pair_read
 returns-then-r-ne0 c =
-    record { on = no_state _ StrayRecord; means = λ p symbols arities x d stored m is kind. rw (ne_eqb _ _ c.if-r-ne0.true) (stops StrayRecord) }
+    record { on = no_state _ StrayRecord; means = λ p x d stored m is kind. rw (ne_eqb _ _ c.if-r-ne0.true) (stops StrayRecord) }
 
 pub returns-then-r-ne0-2 : goal.returns-then-r-ne0-2
 unfolding pair_read
 returns-then-r-ne0-2 c =
     record {
       on = no_state _ StrayRecord;
-      means = λ p symbols arities x d stored m is kind. rw (eq-eqb _ _ c.if-r-ne0.false, ne_eqb _ _ c.if-r-ne0-2.true) (stops StrayRecord);
+      means = λ p x d stored m is kind. rw (eq-eqb _ _ c.if-r-ne0.false, ne_eqb _ _ c.if-r-ne0-2.true) (stops StrayRecord);
     }
 
 pub returns-then-k-s : goal.returns-then-k-s
@@ -51,7 +51,7 @@ returns-then-k-s c =
     let small : c.args.r.b < 65536 = omega arith in
     record {
       on = no_state _ StrayRecord;
-      means = λ p symbols arities x d stored m is kind. rw (zeros, by_key _ _ _ _ _ _ _ (pairs_told _ x d is m) small c.key-k.ensures.is, le-ltb _ _ c.if-k-s.true) (stops StrayRecord);
+      means = λ p x d stored m is kind. rw (zeros, by_key _ _ _ _ _ _ _ (pairs_told _ x d is m) small c.key-k.ensures.is, le-ltb _ _ c.if-k-s.true) (stops StrayRecord);
     }
 
 pub returns-in_default : goal.returns-in_default
@@ -61,8 +61,8 @@ returns-in_default c =
     let small : c.args.r.b < 65536 = omega arith in
     record {
       on = no_state _ NoSuchPair;
-      means = λ p symbols arities x d stored m is kind.
-          let none : is_pair p (a_pair c.args.r.a c.args.r.b) ≡ false = not_named _ _ _ (c.place_of.ensures p symbols arities stored) c.in_default.not-Ok in
+      means = λ p x d stored m is kind.
+          let none : is_pair p (a_pair c.args.r.a c.args.r.b) ≡ false = not_named _ _ _ (c.place_of.ensures p _ _ stored) c.in_default.not-Ok in
           rw (zeros, by_key _ _ _ _ _ _ _ (pairs_told _ x d is m) small c.key-k.ensures.is, lt-ltb _ _ c.if-k-s.false, none) (stops NoSuchPair);
     }
 
@@ -73,8 +73,8 @@ returns c =
     let small : c.args.r.b < 65536 = omega arith in
     record {
       on = after_pair _ _ refl refl refl;
-      means = λ p symbols arities x d stored m is kind.
-          let one : is_pair p (a_pair c.args.r.a c.args.r.b) ≡ true = named _ _ (c.place_of.ensures p symbols arities stored) _ c.in-Ok.is in
+      means = λ p x d stored m is kind.
+          let one : is_pair p (a_pair c.args.r.a c.args.r.b) ≡ true = named _ _ (c.place_of.ensures p _ _ stored) _ c.in-Ok.is in
           rw (zeros, by_key _ _ _ _ _ _ _ (pairs_told _ x d is m) small c.key-k.ensures.is, lt-ltb _ _ c.if-k-s.false, one, kind)
           (answers _ _ (pair_mirrored _ x d is m _ _ _ c.key-k.ensures.is small));
     }

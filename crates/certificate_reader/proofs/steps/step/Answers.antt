@@ -32,7 +32,7 @@ returns-then-r-eq80 c =
       on = c.pair.ensures.on;
       means = λ p x stored m.
           let d = m.begun_is (pair_may_stand _ asked.sound _ asked.follows kind).0 in
-          pair_steps p _ _ x _ m asked.follows d.0 d.1 kind (c.pair.ensures.means p _ _ x d.0 stored m d.1 kind);
+          pair_steps p _ _ x _ m asked.follows d.0 d.1 kind (c.pair.ensures.means p x d.0 stored m d.1 kind);
     }
 
 pub weight-requires : goal.weight-requires
@@ -52,7 +52,7 @@ returns-then-r-gt80 c =
       on = c.weight.ensures.on;
       means = λ p x stored m.
           let d = m.begun_is stands.0 in
-          weight_steps p _ _ x _ m asked.follows d.0 d.1 kind (c.weight.ensures.means p _ _ _ _ x d.0 stored m d.1 stands.1 kind);
+          weight_steps p _ _ x _ m asked.follows d.0 d.1 kind (c.weight.ensures.means p x d.0 stored m d.1 stands.1 kind);
     }
 
 pub marked-requires : goal.marked-requires
@@ -76,7 +76,7 @@ returns-then-r-eq77 c =
       on = c.marked.ensures.on;
       means = λ p x stored m.
           let d = m.begun_is stands.0 in
-          marked_steps p _ _ x _ m asked.follows d.0 d.1 kind (c.marked.ensures.means p _ _ _ x d.0 stored m d.1 stands.1 kind);
+          marked_steps p _ _ x _ m asked.follows d.0 d.1 kind (c.marked.ensures.means p x d.0 stored m d.1 stands.1 kind);
     }
 
 pub weighting-requires : goal.weighting-requires

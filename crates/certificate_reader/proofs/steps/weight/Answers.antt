@@ -17,7 +17,7 @@ use Rattle.certificate_reader.proofs.steps.weight.Goals as goal
 pub returns-then-r-ne0 : goal.returns-then-r-ne0
 unfolding weight_read
 returns-then-r-ne0 c =
-    record { on = no_state _ StrayRecord; means = λ p rules starts nodes flags x d stored m is due kind. rw (ne_eqb _ _ c.if-r-ne0.true) (stops StrayRecord) }
+    record { on = no_state _ StrayRecord; means = λ p x d stored m is due kind. rw (ne_eqb _ _ c.if-r-ne0.true) (stops StrayRecord) }
 
 pub returns-then-k-s : goal.returns-then-k-s
 unfolding weight_read weights_below Tells
@@ -26,7 +26,7 @@ returns-then-k-s c =
     let small : c.args.r.b < 65536 = omega arith in
     record {
       on = no_state _ StrayRecord;
-      means = λ p rules starts nodes flags x d stored m is due kind. rw (zero_one, by_key _ _ _ _ _ _ _ (weights_told _ x d is m) small c.key-k.ensures.is, le-ltb _ _ c.if-k-s.true) (stops StrayRecord);
+      means = λ p x d stored m is due kind. rw (zero_one, by_key _ _ _ _ _ _ _ (weights_told _ x d is m) small c.key-k.ensures.is, le-ltb _ _ c.if-k-s.true) (stops StrayRecord);
     }
 
 pub returns-then-not-is_place : goal.returns-then-not-is_place
@@ -36,8 +36,8 @@ returns-then-not-is_place c =
     let small : c.args.r.b < 65536 = omega arith in
     record {
       on = no_state _ OutOfRange;
-      means = λ p rules starts nodes flags x d stored m is due kind.
-          let none = place_stored p _ rules _ starts nodes flags stored c.args.r.a c.args.r.b ∙ sym c.is_place.ensures ∙ c.if-not-is_place.true in
+      means = λ p x d stored m is due kind.
+          let none = place_stored p _ _ _ _ _ _ stored c.args.r.a c.args.r.b ∙ sym c.is_place.ensures ∙ c.if-not-is_place.true in
           rw (zero_one, by_key _ _ _ _ _ _ _ (weights_told _ x d is m) small c.key-k.ensures.is, lt-ltb _ _ c.if-k-s.false, none) (stops OutOfRange);
     }
 
@@ -49,8 +49,8 @@ returns c =
     let has = c.requires.weighted in
     record {
       on = after_weight _ _ (omega arith) (omega arith) refl has refl (omega arith);
-      means = λ p rules starts nodes flags x d stored m is due kind.
-          let one = place_stored p _ rules _ starts nodes flags stored c.args.r.a c.args.r.b ∙ sym c.is_place.ensures ∙ c.if-not-is_place.false in
+      means = λ p x d stored m is due kind.
+          let one = place_stored p _ _ _ _ _ _ stored c.args.r.a c.args.r.b ∙ sym c.is_place.ensures ∙ c.if-not-is_place.false in
           rw (zero_one, by_key _ _ _ _ _ _ _ (weights_told _ x d is m) small c.key-k.ensures.is, lt-ltb _ _ c.if-k-s.false, one, kind)
           (answers _ _ (weight_mirrored _ x d is m _ _ _ c.key-k.ensures.is small _ has));
     }

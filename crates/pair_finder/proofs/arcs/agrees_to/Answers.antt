@@ -7,11 +7,11 @@ use Rattle.pair_finder.proofs.arcs.agrees_to.Goals as goal
 pub overflow_mul-other : goal.overflow_mul-other
 overflow_mul-other c = omega (arith, other_small _ _ _ _ _ _ c.requires.ended.asked)
 
-pub offset_bounds-starts-other : goal.offset_bounds-starts-other
-offset_bounds-starts-other c = omega (arith, other_small _ _ _ _ _ _ c.requires.ended.asked)
+pub offset_bounds-pack-other : goal.offset_bounds-pack-other
+offset_bounds-pack-other c = omega (arith, other_small _ _ _ _ _ _ c.requires.ended.asked)
 
-pub bounds-starts-other : goal.bounds-starts-other
-bounds-starts-other c = omega (arith, other_small _ _ _ _ _ _ c.requires.ended.asked)
+pub bounds-pack-other : goal.bounds-pack-other
+bounds-pack-other c = omega (arith, other_small _ _ _ _ _ _ c.requires.ended.asked)
 
 pub overflow_add-right : goal.overflow_add-right
 overflow_add-right c = omega (arith, term_within _ _ _ (right_at _ _ _ _ _ _ c.requires.ended.asked))

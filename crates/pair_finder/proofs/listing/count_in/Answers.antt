@@ -14,8 +14,8 @@ loop-i-init c = (omega arith, omega arith, omega arith, zero-add _ ∙ ap length
 pub loop-i-preserved : goal.loop-i-preserved
 loop-i-preserved c =
     let l = c.loop-i in
-    let flags = c.args.defined.now in
-    let nodes = c.args.nodes.now in
+    let flags = c.args.pack.now.defined in
+    let nodes = c.args.pack.now.nodes in
     ⊎_elim
     (λ w.
     let e = defined_left flags nodes _ l.i _ l.invariant.0 c.loop-i-test.true c.requires.1 (sym c.is_defined.ensures ∙ w.if-is_defined.true) in
@@ -27,4 +27,4 @@ loop-i-preserved c =
 
 pub returns : goal.returns
 returns c =
-    omega (arith, ap length (none_left c.args.defined.now c.args.nodes.now c.args.from c.loop-i.i _ c.loop-i-test.false))
+    omega (arith, ap length (none_left c.args.pack.now.defined c.args.pack.now.nodes c.args.from c.loop-i.i _ c.loop-i-test.false))

@@ -10,4 +10,4 @@ use Rattle.pair_finder.proofs.listing.count_in.Given as goal
 
 abbrev pub invariant-loop-i : goal.invariant-loop-i
 invariant-loop-i l =
-    (l.from ≤ l.i) × (l.i ≤ l.to) × (l.n ≤ l.i - l.from) × (l.n + length (places_left l.defined l.nodes l.from l.i l.to) ≡ length (places l.defined 0 (part l.nodes l.from l.to)))
+    (l.from ≤ l.i) × (l.i ≤ l.to) × (l.n ≤ l.i - l.from) × (l.n + length (places_left l.pack.defined l.pack.nodes l.from l.i l.to) ≡ length (places l.pack.defined 0 (part l.pack.nodes l.from l.to)))

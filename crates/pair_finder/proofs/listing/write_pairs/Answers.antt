@@ -31,11 +31,10 @@ write_in-at-requires c =
       laid.rises l.i c.loop-i-test.true,
       laid.short l.i c.loop-i-test.true,
       laid.within l.i c.loop-i-test.true,
-      c.requires.1,
       omega (
         arith,
-        rule_fits _ _ _ _ l.list _ l.i l.at c.loop-i-test.true c.requires.2 l.invariant.2,
-        rule_pairs_long c.args.starts.now c.args.nodes.now c.args.defined.now l.i,
+        rule_fits _ _ _ _ l.list _ l.i l.at c.loop-i-test.true c.requires.1 l.invariant.2,
+        rule_pairs_long c.args.pack.now.starts c.args.pack.now.nodes c.args.pack.now.defined l.i,
         l.invariant.1,
       ),
     )
@@ -46,11 +45,11 @@ loop-i-preserved c =
     let l = c.loop-i in (
       omega arith,
       c.write_in-at.auto.list ∙ l.invariant.1,
-      rule_written _ _ _ _ l.list _ l.i l.at c.loop-i-test.true c.requires.2 l.invariant.2 _ _ (rw (c.from-from.ensures, c.from-to.ensures) at c.write_in-at.ensures),
+      rule_written _ _ _ _ l.list _ l.i l.at c.loop-i-test.true c.requires.1 l.invariant.2 _ _ (rw (c.from-from.ensures, c.from-to.ensures) at c.write_in-at.ensures),
     )
 
 pub returns : goal.returns
 returns c =
     let l = c.loop-i in
-    let e : l.i ≡ c.args.rules = omega arith in
+    let e : l.i ≡ c.args.pack.now.rules = omega arith in
     rw (← e) (rw zero-add at l.invariant.2.list_is)
