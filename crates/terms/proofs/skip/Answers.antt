@@ -2,30 +2,16 @@
 -- read, and it ends where the term ends.
 use mathlib.Core.Path.{◌≡◌, refl, ap}
 use mathlib.Core.List.{List, append-nil}
-use Prim.Native.Nat.{ℕ, ◌+◌, ◌*◌, ◌-◌, ◌≤◌, ◌<◌}
+use Prim.Native.Nat.{ℕ, ◌+◌, ◌-◌, ◌<◌}
 use native.Mathlib.Omega.{arith}
-use borrow.Author.Rules.{rules}
 use lib.ListN.{length, get_or}
-use Rattle.rewriting.specs.Terms.{Tree, nil, cons, is_list, is_term, well, width}
+use Rattle.rewriting.specs.Terms.{nil, cons, is_list, is_term, well, width}
 use Rattle.rewriting.proofs.Basics.{and_both}
 use Rattle.terms.specs.Sides.{flat}
 use Rattle.terms.specs.Kept.{TermAt, code_arity}
-use Rattle.terms.proofs.Rests.{Rest, node_read, node_within, rest_none}
-use Rattle.terms.proofs.skip.Statement.{statement}
-use Rattle.terms.proofs.skip.Tie as tie
-
--- what is still to be read of a term that is kept at a place
-pub record Left (arities nodes : List ℕ) (at : ℕ) (s : TermAt arities nodes at) (wanted i : ℕ) : Type 0 where
-  pub rest : Tree
-  pub is : Rest s.system nodes i wanted rest
-  pub ends : i + length (flat rest) ≡ at + length (flat s.term)
-
-abbrev invariant-loop-wanted : tie.invariant-loop-wanted
-invariant-loop-wanted arities nodes at wanted₀ i₀ wanted i =
-    (at ≤ i) × (wanted ≤ 1 + 255 * (i - at)) × ((s : TermAt arities nodes at) → Left arities nodes at s wanted i)
-
-abbrev decreases-loop-wanted : tie.decreases-loop-wanted
-decreases-loop-wanted arities nodes at wanted₀ i₀ wanted i = length nodes - i
+use Rattle.terms.proofs.Rests.{node_read, node_within, rest_none}
+use Rattle.terms.proofs.skip.Invariants.{Left}
+use Rattle.terms.proofs.skip.Goals as goal
 
 whole : (arities nodes : List ℕ) (at : ℕ) (s : TermAt arities nodes at) → Left arities nodes at s 1 at
 unfolding flat width is_list well is_term
@@ -46,27 +32,33 @@ module _ (arities nodes : List ℕ) (at wanted i : ℕ) (s : TermAt arities node
       let n = node_read s.system arities nodes s.arities_are s.arities_few i wanted l.rest h l.is in
       record { rest = n.rest; is = n.is; ends = omega (arith, n.shorter, l.ends) }
 
-read : tie.Need-bounds-nodes-i invariant-loop-wanted decreases-loop-wanted
-read c =
+pub loop-wanted-init : goal.loop-wanted-init
+loop-wanted-init c = (omega arith, omega arith, λ s. whole _ _ _ s)
+
+pub bounds-nodes-i : goal.bounds-nodes-i
+bounds-nodes-i c =
     let l = c.loop-wanted in
     let s = c.requires.2 in
     within _ _ _ l.wanted l.i s c.loop-wanted-test.true (l.invariant.2 s)
 
-goes_on : (c : tie.After-code_arity invariant-loop-wanted decreases-loop-wanted) → c.loop-wanted.i < length c.args.nodes.now
-goes_on c =
-    let l = c.loop-wanted in
-    let s = c.requires.2 in
-    within _ _ _ l.wanted l.i s c.loop-wanted-test.true (l.invariant.2 s)
+pub overflow_add-wanted : goal.overflow_add-wanted
+overflow_add-wanted c = let l = c.loop-wanted in let s = c.requires.2 in omega (arith, within _ _ _ l.wanted l.i s c.loop-wanted-test.true (l.invariant.2 s))
 
-again : tie.Need-loop-wanted-preserved invariant-loop-wanted decreases-loop-wanted
-again c =
+pub overflow_add-i : goal.overflow_add-i
+overflow_add-i c = let l = c.loop-wanted in let s = c.requires.2 in omega (arith, within _ _ _ l.wanted l.i s c.loop-wanted-test.true (l.invariant.2 s))
+
+pub loop-wanted-smaller : goal.loop-wanted-smaller
+loop-wanted-smaller c = let l = c.loop-wanted in let s = c.requires.2 in omega (arith, within _ _ _ l.wanted l.i s c.loop-wanted-test.true (l.invariant.2 s))
+
+pub loop-wanted-preserved : goal.loop-wanted-preserved
+loop-wanted-preserved c =
     let l = c.loop-wanted in (
       omega arith,
       omega arith,
       λ s. rw c.code_arity.ensures.0 (less _ _ _ l.wanted l.i s c.loop-wanted-test.true (l.invariant.2 s)),
     )
 
-returns : tie.Need-returns invariant-loop-wanted decreases-loop-wanted
+pub returns : goal.returns
 returns c =
     let l = c.loop-wanted in
     λ s.
@@ -74,19 +66,3 @@ returns c =
     let z : l.wanted ≡ 0 = omega arith in
     let n = rest_none s.system _ _ s.arities_are s.arities_few l.i t.rest (rw z at t.is) in
     omega (arith, n, t.ends)
-
-pub skip_spec : {M : Type 1} → statement M
-skip_spec =
-    tie.close
-    (tie.spec
-    invariant-loop-wanted
-    decreases-loop-wanted
-    (λ c. (omega arith, omega arith, λ s. whole _ _ _ s))
-    (λ c. omega arith)
-    read
-    (λ c κs. search rules)
-    (λ c. omega (arith, goes_on c))
-    (λ c. omega (arith, goes_on c))
-    (λ c. omega (arith, goes_on c))
-    again
-    returns)
