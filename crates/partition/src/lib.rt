@@ -4,7 +4,7 @@ ghost use Rattle.std.specs.Prelude.{◌≡◌, ◌<◌, ◌≤◌, length};
 ghost use Rattle.partition.specs.Working.{slot, back_to, back_at, Keys, Roots, Lowered, NotedEntry, KeysAsked, BackAsked, SearchAsked, SearchAnswer, BackAskedOf, Judgeable, OrderingAsked, OrderedAs};
 
 use entries::{Entry, Store};
-use pack_reader::{MOST_NODES, MOST_RULES};
+use pack_reader::{MOST_NODES, MOST_RULES, Pack};
 use records::{MOST_PAIRS, Refusal};
 use terms::MOST_SYMBOLS;
 
@@ -31,49 +31,45 @@ fn note(e: Entry, lows: &mut [u16], seen: &mut [bool]) -> bool
 }
 
 // The root of each rule's left side and the rule's lowest component, as one number.
-fn keep_keys(starts: &[u16], nodes: &[u8], rules: usize, lows: &[u16], keys: &mut [u32])
-    requires { KeysAsked rules starts.now nodes.now lows.now keys.old }
-    ensures { Keys rules starts.now nodes.now lows.now keys.new }
+fn keep_keys(pack: &Pack, lows: &[u16], keys: &mut [u32])
+    requires { KeysAsked pack.now.rules pack.now.starts pack.now.nodes lows.now keys.old }
+    ensures { Keys pack.now.rules pack.now.starts pack.now.nodes lows.now keys.new }
 {
-    for s in 0..rules {
-        let at = usize::from(starts[2 * s]);
-        keys[s] = 65536 * u32::from(nodes[at]) + u32::from(lows[s]);
+    for s in 0..pack.rules {
+        let at = usize::from(pack.starts[2 * s]);
+        keys[s] = 65536 * u32::from(pack.nodes[at]) + u32::from(lows[s]);
     }
 }
 
 // The lowest component of the rules with each root.
-fn lowest_of_roots(starts: &[u16], nodes: &[u8], rules: usize, lows: &[u16], roots: &mut [u16])
-    requires { KeysAsked rules starts.now nodes.now lows.now roots.old }
-    ensures { Roots rules starts.now nodes.now lows.now roots.new }
+fn lowest_of_roots(pack: &Pack, lows: &[u16], roots: &mut [u16])
+    requires { KeysAsked pack.now.rules pack.now.starts pack.now.nodes lows.now roots.old }
+    ensures { Roots pack.now.rules pack.now.starts pack.now.nodes lows.now roots.new }
 {
-    for s in 0..rules {
-        let at = usize::from(starts[2 * s]);
-        lower(roots, usize::from(nodes[at]), lows[s]);
+    for s in 0..pack.rules {
+        let at = usize::from(pack.starts[2 * s]);
+        lower(roots, usize::from(pack.nodes[at]), lows[s]);
     }
 }
 
 // The next rule from `first` on with a pair in a component below `own` to which document 01's arc leads from the pair whose right
 // side is kept from `right` to `end`; no arc leads back to a rule before it.
 fn reached_from(
-    arities: &[u8],
-    starts: &[u16],
-    nodes: &[u8],
-    defined: &[u8],
-    rules: usize,
+    pack: &Pack,
     keys: &[u32],
     right: usize,
     end: usize,
     own: u16,
     first: usize,
 ) -> Option<usize>
-    requires { SearchAsked rules arities.now starts.now nodes.now defined.now keys.now right end × (first ≤ rules) }
-    ensures { (a : SearchAsked rules arities.now starts.now nodes.now defined.now keys.now right end) → SearchAnswer a.asked.kept.system a.asked.lows own a.asked.pair rules first result }
+    requires { SearchAsked pack.now.rules pack.now.arities pack.now.starts pack.now.nodes pack.now.defined keys.now right end × (first ≤ pack.now.rules) }
+    ensures { (a : SearchAsked pack.now.rules pack.now.arities pack.now.starts pack.now.nodes pack.now.defined keys.now right end) → SearchAnswer a.asked.kept.system a.asked.lows own a.asked.pair pack.now.rules first result }
 {
-    let from = 65536 * u32::from(nodes[right]);
-    for s in first..rules {
+    let from = 65536 * u32::from(pack.nodes[right]);
+    for s in first..pack.rules {
         // One test for both: the rule has this root, and a component below `own`.
         if keys[s].wrapping_sub(from) < u32::from(own) {
-            if pair_finder::arcs::reaches_to(arities, starts, nodes, defined, right, end, s) {
+            if pair_finder::arcs::reaches_to(pack, right, end, s) {
                 return Some(s);
             }
         }
@@ -82,30 +78,18 @@ fn reached_from(
 }
 
 // An arc leads from the pair whose right side is kept at `right` to a rule with a pair in a component below `own`.
-fn back_from(
-    arities: &[u8],
-    starts: &[u16],
-    nodes: &[u8],
-    defined: &[u8],
-    rules: usize,
-    keys: &[u32],
-    roots: &[u16],
-    right: usize,
-    own: u16,
-) -> bool
-    requires { BackAsked rules arities.now starts.now nodes.now defined.now keys.now roots.now right }
-    ensures { (a : BackAsked rules arities.now starts.now nodes.now defined.now keys.now roots.now right) → result ≡ back_to a.kept.system a.lows own a.pair rules }
+fn back_from(pack: &Pack, keys: &[u32], roots: &[u16], right: usize, own: u16) -> bool
+    requires { BackAsked pack.now.rules pack.now.arities pack.now.starts pack.now.nodes pack.now.defined keys.now roots.now right }
+    ensures { (a : BackAsked pack.now.rules pack.now.arities pack.now.starts pack.now.nodes pack.now.defined keys.now roots.now right) → result ≡ back_to a.kept.system a.lows own a.pair pack.now.rules }
 {
     // No rule with this root has a lower component.
-    if own <= roots[usize::from(nodes[right])] {
+    if own <= roots[usize::from(pack.nodes[right])] {
         return false;
     }
-    let end = terms::skip(arities, nodes, right);
+    let end = terms::skip(&pack.arities, &pack.nodes, right);
     let mut s = 0;
-    while let Some(reached) = reached_from(
-        arities, starts, nodes, defined, rules, keys, right, end, own, s,
-    ) {
-        if pair_finder::arcs::agrees_to(arities, starts, nodes, defined, right, end, reached) {
+    while let Some(reached) = reached_from(pack, keys, right, end, own, s) {
+        if pair_finder::arcs::agrees_to(pack, right, end, reached) {
             return true;
         }
         s = reached + 1;
@@ -114,31 +98,12 @@ fn back_from(
 }
 
 // The same from the pair of an entry.
-fn back_from_entry(
-    e: Entry,
-    arities: &[u8],
-    starts: &[u16],
-    nodes: &[u8],
-    defined: &[u8],
-    rules: usize,
-    keys: &[u32],
-    roots: &[u16],
-) -> bool
-    requires { BackAskedOf e rules arities.now starts.now nodes.now defined.now keys.now roots.now }
-    ensures { (a : BackAskedOf e rules arities.now starts.now nodes.now defined.now keys.now roots.now) → result ≡ back_at a.kept.system a.lows rules e }
+fn back_from_entry(e: Entry, pack: &Pack, keys: &[u32], roots: &[u16]) -> bool
+    requires { BackAskedOf e pack.now.rules pack.now.arities pack.now.starts pack.now.nodes pack.now.defined keys.now roots.now }
+    ensures { (a : BackAskedOf e pack.now.rules pack.now.arities pack.now.starts pack.now.nodes pack.now.defined keys.now roots.now) → result ≡ back_at a.kept.system a.lows pack.now.rules e }
 {
-    let right = usize::from(starts[2 * usize::from(e.rule) + 1]) + usize::from(e.place);
-    back_from(
-        arities,
-        starts,
-        nodes,
-        defined,
-        rules,
-        keys,
-        roots,
-        right,
-        e.component,
-    )
+    let right = usize::from(pack.starts[2 * usize::from(e.rule) + 1]) + usize::from(e.place);
+    back_from(pack, keys, roots, right, e.component)
 }
 
 // 8, then 9, by the entries of a certificate that was read. The certificate itself is there for the contract.
@@ -146,17 +111,13 @@ pub fn judge(
     certificate: &[u8],
     store: Store,
     components: usize,
-    rules: usize,
-    arities: &[u8],
-    starts: &[u16],
-    nodes: &[u8],
-    defined: &[u8],
+    pack: &Pack,
 ) -> Result<(), Refusal>
-    requires { OrderingAsked certificate.now store components rules arities.now starts.now nodes.now defined.now }
-    ensures { (j : Judgeable certificate.now components rules arities.now starts.now nodes.now defined.now) → OrderedAs j.kept.system j.all result }
+    requires { OrderingAsked certificate.now store components pack.now.rules pack.now.arities pack.now.starts pack.now.nodes pack.now.defined }
+    ensures { (j : Judgeable certificate.now components pack.now.rules pack.now.arities pack.now.starts pack.now.nodes pack.now.defined) → OrderedAs j.kept.system j.all result }
 {
     let n = store.count;
-    if n != pair_finder::listing::count_pairs(starts, nodes, defined, rules) {
+    if n != pair_finder::listing::count_pairs(pack) {
         return Err(Refusal::PairCount);
     }
     let mut lows = [NO_COMPONENT; MOST_RULES];
@@ -171,12 +132,12 @@ pub fn judge(
         return Ok(());
     }
     let mut keys = [0u32; MOST_RULES];
-    keep_keys(starts, nodes, rules, &lows, &mut keys);
+    keep_keys(pack, &lows, &mut keys);
     let mut roots = [NO_COMPONENT; MOST_SYMBOLS];
-    lowest_of_roots(starts, nodes, rules, &lows, &mut roots);
+    lowest_of_roots(pack, &lows, &mut roots);
     for i in 0..n {
         let e = store.entries[i];
-        if back_from_entry(e, arities, starts, nodes, defined, rules, &keys, &roots) {
+        if back_from_entry(e, pack, &keys, &roots) {
             return Err(Refusal::BackArc);
         }
     }

@@ -5,9 +5,9 @@ use Rattle.partition.specs.Working.{back_to}
 use Rattle.partition.proofs.Keys.{right_term, root_small, none_lower, found_next, none_found, found_reached, found_back, found_none}
 use Rattle.partition.proofs.back_from.Goals as goal
 
-pub bounds-nodes-right : goal.bounds-nodes-right
+pub bounds-pack-right : goal.bounds-pack-right
 unfolding back_to
-bounds-nodes-right c = term_within _ _ _ (right_term c.requires)
+bounds-pack-right c = omega (arith, term_within _ _ _ (right_term c.requires))
 
 pub bounds-roots-from : goal.bounds-roots-from
 bounds-roots-from c = let a = c.requires in omega (arith, root_small a, a.keyed.roots_are.long)

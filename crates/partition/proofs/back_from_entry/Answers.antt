@@ -4,8 +4,8 @@ use Rattle.partition.specs.Working.{back_at}
 use Rattle.partition.proofs.Keys.{of_entry, entry_rule}
 use Rattle.partition.proofs.back_from_entry.Goals as goal
 
-pub bounds-starts-from : goal.bounds-starts-from
-bounds-starts-from c = let laid = c.requires.kept.arrays.laid in omega (arith, entry_rule c.requires, laid.few, laid.starts_long)
+pub bounds-pack-from : goal.bounds-pack-from
+bounds-pack-from c = let laid = c.requires.kept.arrays.laid in omega (arith, entry_rule c.requires, laid.few, laid.starts_long)
 
 pub back_from-requires : goal.back_from-requires
 back_from-requires c = rw (c.from-2.ensures, c.from-3.ensures, c.from.ensures) (of_entry c.requires)

@@ -138,13 +138,13 @@ returns-then-back_from_entry c =
     let counts = c.count_pairs.ensures in
     let past_all : length es ≤ c.loop-i.i = omega (arith, many _ c.requires, c.loop-i-test.false) in
     let lows = c.loop-i.lows in
-    let keyed : Keyed a.rules a.starts.now a.nodes.now lows c.keep_keys.new.keys c.lowest_of_roots.new.roots =
+    let keyed : Keyed a.pack.now.rules a.pack.now.starts a.pack.now.nodes lows c.keep_keys.new.keys c.lowest_of_roots.new.roots =
     record { keys_are = c.keep_keys.ensures; roots_are = c.lowest_of_roots.ensures } in
     let l = c.loop-i-2 in
     let h = c.loop-i-2-test.true in
     sym
     (by_arcs j (count _ c.requires same counts) (none_again past_all c.loop-i.invariant.1) lows (all_lowest past_all c.loop-i.invariant.1) true
-    (found j.kept.system lows a.rules es l.i (l.invariant.1 j lows keyed) (within _ c.requires same counts l.i h) _ (is_kept _ c.requires same counts l.i h)
+    (found j.kept.system lows a.pack.now.rules es l.i (l.invariant.1 j lows keyed) (within _ c.requires same counts l.i h) _ (is_kept _ c.requires same counts l.i h)
     _ (c.back_from_entry.ensures (record { kept = j.kept; lows = lows; keyed = keyed; is = pair_kept _ c.requires same counts l.i h j })) c.if-back_from_entry.true))
 
 pub loop-i-2-preserved : goal.loop-i-2-preserved
@@ -156,7 +156,7 @@ loop-i-2-preserved c =
     let h = c.loop-i-2-test.true in (
       omega (arith, h),
       λ j ls keyed_by.
-          not_here j.kept.system ls c.args.rules es l.i (l.invariant.1 j ls keyed_by) (within _ c.requires same counts l.i h) _ (is_kept _ c.requires same counts l.i h)
+          not_here j.kept.system ls c.args.pack.now.rules es l.i (l.invariant.1 j ls keyed_by) (within _ c.requires same counts l.i h) _ (is_kept _ c.requires same counts l.i h)
           _ (c.back_from_entry.ensures (record { kept = j.kept; lows = ls; keyed = keyed_by; is = pair_kept _ c.requires same counts l.i h j })) c.if-back_from_entry.false,
     )
 
@@ -168,10 +168,10 @@ returns c =
     let es = of_certificate a.certificate.now in
     let past_all : length es ≤ c.loop-i.i = omega (arith, many _ c.requires, c.loop-i-test.false) in
     let lows = c.loop-i.lows in
-    let keyed : Keyed a.rules a.starts.now a.nodes.now lows c.keep_keys.new.keys c.lowest_of_roots.new.roots =
+    let keyed : Keyed a.pack.now.rules a.pack.now.starts a.pack.now.nodes lows c.keep_keys.new.keys c.lowest_of_roots.new.roots =
     record { keys_are = c.keep_keys.ensures; roots_are = c.lowest_of_roots.ensures } in
     let l = c.loop-i-2 in
     let past : length es ≤ l.i = omega (arith, many _ c.requires, c.loop-i-2-test.false) in
     sym
     (by_arcs j (count _ c.requires c.if-n-count_pairs.false c.count_pairs.ensures) (none_again past_all c.loop-i.invariant.1) lows (all_lowest past_all c.loop-i.invariant.1) false
-    (nowhere j.kept.system lows a.rules es l.i (l.invariant.1 j lows keyed) past))
+    (nowhere j.kept.system lows a.pack.now.rules es l.i (l.invariant.1 j lows keyed) past))

@@ -17,5 +17,5 @@ invariant-loop-i l = (l.i ≤ l.n) × Noted (of_certificate l.certificate) l.low
 abbrev pub invariant-loop-i-2 : goal.invariant-loop-i-2
 invariant-loop-i-2 l =
     (l.i ≤ l.n)
-    × ((j : Judgeable l.certificate l.components l.rules l.arities l.starts l.nodes l.defined) (lows : List ℕ) → Keyed l.rules l.starts l.nodes lows l.keys l.roots →
-    any_back j.kept.system lows l.rules (drop l.i (of_certificate l.certificate)) ≡ any_back j.kept.system lows l.rules (of_certificate l.certificate))
+    × ((j : Judgeable l.certificate l.components l.pack.rules l.pack.arities l.pack.starts l.pack.nodes l.pack.defined) (lows : List ℕ) → Keyed l.pack.rules l.pack.starts l.pack.nodes lows l.keys l.roots →
+    any_back j.kept.system lows l.pack.rules (drop l.i (of_certificate l.certificate)) ≡ any_back j.kept.system lows l.pack.rules (of_certificate l.certificate))

@@ -7,14 +7,14 @@ pub loop-s-init : goal.loop-s-init
 loop-s-init c =
     (omega arith, record { long = c.requires.room_long; small = λ s h. absurd (omega arith); key = λ s h. absurd (omega arith) })
 
-pub offset_bounds-starts-s : goal.offset_bounds-starts-s
-offset_bounds-starts-s c = omega (arith, c.requires.begun.few)
+pub offset_bounds-pack-s : goal.offset_bounds-pack-s
+offset_bounds-pack-s c = omega (arith, c.requires.begun.few)
 
-pub bounds-starts-s : goal.bounds-starts-s
-bounds-starts-s c = omega (arith, c.requires.begun.few, c.requires.begun.starts_long)
+pub bounds-pack-s : goal.bounds-pack-s
+bounds-pack-s c = omega (arith, c.requires.begun.few, c.requires.begun.starts_long)
 
-pub bounds-nodes-at : goal.bounds-nodes-at
-bounds-nodes-at c = rw c.from-at.ensures (c.requires.begun.within c.loop-s.s c.loop-s-test.true)
+pub bounds-pack-at : goal.bounds-pack-at
+bounds-pack-at c = omega (arith, c.from-at.ensures, c.requires.begun.within c.loop-s.s c.loop-s-test.true)
 
 pub offset_bounds-lows-s : goal.offset_bounds-lows-s
 offset_bounds-lows-s c = omega (arith, c.requires.begun.few)
@@ -31,11 +31,11 @@ bounds-keys-s c = omega (arith, c.requires.begun.few, c.loop-s.invariant.1.long)
 pub loop-s-preserved : goal.loop-s-preserved
 loop-s-preserved c =
     let l = c.loop-s in
-    let low = c.shared_slice_known-in-loop-s-2-1.given l.s in
+    let low = c.type_inv.lows l.s in
     (omega arith, rw (c.from-in-loop-s.ensures, c.from.ensures, c.from-at.ensures) (more_keys _ _ c.args.lows.now l.s l.keys l.invariant.1 (omega (arith, c.requires.begun.few)) (omega arith)))
 
 pub returns : goal.returns
 returns c =
     let l = c.loop-s in
-    let e : l.s ≡ c.args.rules = omega arith in
+    let e : l.s ≡ c.args.pack.now.rules = omega arith in
     rw (← e) l.invariant.1

@@ -5,8 +5,8 @@ use Rattle.partition.proofs.Keys.{asked_of, right_term, root_small, none_more, n
 use Rattle.partition.proofs.reached_from.Goals.{then-keys-s+else-reaches_to, else-keys-s}
 use Rattle.partition.proofs.reached_from.Goals as goal
 
-pub bounds-nodes-right : goal.bounds-nodes-right
-bounds-nodes-right c = term_within _ _ _ (right_term c.requires.0.asked)
+pub bounds-pack-right : goal.bounds-pack-right
+bounds-pack-right c = omega (arith, term_within _ _ _ (right_term c.requires.0.asked))
 
 pub overflow_mul-from : goal.overflow_mul-from
 overflow_mul-from c = omega (arith, root_small c.requires.0.asked)
@@ -58,5 +58,5 @@ pub returns : goal.returns
 returns c =
     λ a.
     let l = c.loop-s in
-    let e : l.s ≡ c.args.rules = omega (arith, l.invariant.1) in
+    let e : l.s ≡ c.args.pack.now.rules = omega (arith, l.invariant.1) in
     rw e at (l.invariant.2 a)
