@@ -17,7 +17,7 @@ use Rattle.records.specs.declared.Refusal.TheVariants.{BadText}
 use Rattle.records.specs.Outcomes.{Outcome, refused, passed}
 use Rattle.terms.specs.Sides.{flat}
 use Rattle.terms.specs.Kept.{Kept}
-use Rattle.pack_reader.specs.declared.Counts.{Counts}
+use Rattle.text_reader.specs.declared.rules.Counts.{Counts}
 use Rattle.pack_reader.specs.Stored.{RuleAt}
 use Rattle.pack_reader.proofs.KeptNodes.{kept_left, kept_right}
 use Rattle.pack_writer.specs.Writing.{Writable}

@@ -14,7 +14,7 @@ use Rattle.records.specs.declared.Refusal.TheVariants.{TextLimits}
 use Rattle.records.specs.Outcomes.{Outcome, refused, passed, after}
 use Rattle.terms.specs.Kept.{codes, starts_room}
 use Rattle.packs.specs.PackReading.{most_rules, most_nodes}
-use Rattle.pack_reader.specs.declared.Counts.{Counts}
+use Rattle.text_reader.specs.declared.rules.Counts.{Counts}
 use Rattle.pack_reader.proofs.RulesSoFar.{with_ends}
 use Rattle.texts.specs.Tokens.{Name, Token, name, closes, arrow}
 use Rattle.texts.specs.Spelling.{bare, applied, TermPhrase, TextRule, spelled, spelled_rules}

@@ -7,7 +7,8 @@ use Rattle.records.specs.Answers.{number_of}
 use Rattle.records.specs.Outcomes.{Outcome, refused, passed}
 use Rattle.terms.specs.Kept.{codes, nodes_room, starts_room, symbols_room}
 use Rattle.packs.specs.PackReading.{most_nodes, most_symbols, most_arity, most_rules, variable_count}
-use Rattle.pack_reader.specs.declared.Counts.{Counts}
+use Rattle.pack_reader.specs.declared.Pack.{Pack}
+use Rattle.text_reader.specs.declared.rules.Counts.{Counts}
 use Rattle.pack_writer.specs.Writing.{Writable}
 use Rattle.texts.specs.Tokens.{Name, Token, most_text_bytes}
 use Rattle.texts.specs.Spelling.{TextRule, among}
@@ -229,3 +230,9 @@ RulesTold (passed y) rs r ar ss ns = (c : Counts) × (r ≡ Ok c) × RulesKept y
 unfoldable pub TextTold : Outcome System → Result Counts Refusal → (arities starts nodes : List ℕ) → Type 0
 TextTold (refused n) r ar ss ns = RefusedWith n r
 TextTold (passed p) r ar ss ns = (c : Counts) × (r ≡ Ok c) × Room ar ss ns × Writable p c.symbols c.rules ar ss ns × (c.symbols ≤ most_symbols) × (c.rules ≤ most_rules)
+
+-- and the pack itself
+unfoldable pub PackTold : Outcome System → Result (Unit {0}) Refusal → Pack → Type 0
+PackTold (refused n) r k = (y : Refusal) × (r ≡ Err y) × (number_of y ≡ n)
+PackTold (passed p) r k =
+    (r ≡ Ok tt) × Writable p k.symbols k.rules k.arities k.starts k.nodes × (k.symbols ≤ most_symbols) × (k.rules ≤ most_rules)

@@ -11,7 +11,7 @@ ghost use Rattle.text_grammar.specs.Grammar.{RulesStand};
 ghost use Rattle.text_reader.specs.Tables.{TablesKept, ReadAsked, SideGoes, SideKeptTold, RuleGoes, RuleTold, RulesGiven, RulesTold};
 
 use crate::numbering::{Seen, number_uses};
-use pack_reader::{Counts, MOST_NODES, MOST_RULES};
+use pack_reader::{MOST_NODES, MOST_RULES};
 use records::Refusal;
 use terms::{MOST_SYMBOLS, MOST_VARIABLES};
 use text_sides::Use;
@@ -30,6 +30,13 @@ struct RuleKept {
     next: usize,
     middle: usize,
     seen: Seen,
+}
+
+// How many symbols and rules a text has.
+#[derive(Clone, Copy)]
+pub struct Counts {
+    pub symbols: usize,
+    pub rules: usize,
 }
 
 // Reads the side at place `at` and numbers its names. None: one of the counts is over its limit, or a symbol has two arities.
