@@ -8,6 +8,7 @@ use Rattle.records.specs.Outcomes.{refused, passed}
 use Rattle.records.specs.Answers.{outcome_of}
 use Rattle.terms.specs.Sides.{flat}
 use Rattle.terms.specs.Kept.{Kept, part, nodes_room, starts_room, symbols_room, TermAt}
+use Rattle.pack_reader.specs.declared.Pack.{Pack}
 use Rattle.pack_reader.specs.Stored.{Stored}
 use Rattle.pair_finder.specs.declared.arcs.Places.{Places}
 use Rattle.pairs.specs.Listing.{a_pair, pair_bytes}
@@ -138,6 +139,10 @@ pub record SystemKept (rules : ℕ) (arities starts nodes flags : List ℕ) : Ty
   pub system : System
   pub symbols : ℕ
   pub stored : Stored system symbols rules arities starts nodes flags
+
+-- one is kept in a pack
+abbrev pub SystemIn : Pack → Type 0
+SystemIn k = SystemKept k.rules k.arities k.starts k.nodes k.defined
 
 -- a pair's right side is kept at `right`, and `other` is a rule
 pub record ArcAsked (arities starts nodes flags : List ℕ) (right other : ℕ) : Type 0 where

@@ -1,10 +1,2 @@
 #![tactic(auto)]
-// The arc question's answer.
-use records::Refusal;
-
-#[derive(Clone, Copy)]
-pub enum ArcAnswer {
-    Yes,
-    No,
-    Refused(Refusal),
-}
+// Dependency pairs, arcs, the listing and the arc question: definitions in specs/, what they mean in proofs/. No code.

@@ -9,15 +9,14 @@ use lib.ListN.{length}
 use borrow.Author.Tests.{lt-ltb, le-ltb, eq-eqb, ne_eqb}
 use Rattle.rewriting.proofs.Basics.{or_right}
 use Rattle.records.specs.declared.Refusal.{Refusal}
-use Rattle.records.specs.declared.Answer.{Answer}
-use Rattle.records.specs.declared.Answer.TheVariants.{Passed, Refused}
+use Rattle.std.specs.Prelude.{Result, Ok, Err}
 use Rattle.records.specs.Outcomes.{Outcome, refused, passed, refusal}
 use Rattle.records.specs.Records.{all_records, length_bad, all_bytes}
 use Rattle.records.specs.Order.{components_start}
 use Rattle.records.specs.Files.{Whole}
-use Rattle.records.specs.Answers.{number_of, answer_outcome}
+use Rattle.records.specs.Answers.{number_of, outcome_of}
 use Rattle.records.proofs.Outcomes.{number_some}
-use Rattle.pack_reader.specs.declared.Counts.{Counts}
+use Rattle.pack_reader.specs.declared.Pack.{Pack}
 use Rattle.packs.specs.PackReading as packs
 use Rattle.packs.specs.PackReading.{read_pack}
 use Rattle.certificates.specs.Components.{Component}
@@ -32,8 +31,6 @@ use Rattle.checker.specs.Working.{JudgedAs}
 use Rattle.judging.proofs.Checking.{check_cut, check_then_read, pack_first}
 use Rattle.promises.specs.Promises
 use Rattle.promises.proofs.Kept.{accepted_exactly, accepted_terminates}
-use Rattle.teldyzhom.specs.declared.Checked.{Checked}
-use Rattle.teldyzhom.specs.declared.Checked.TheVariants.{Accepted, Refused as NotAccepted}
 use Rattle.teldyzhom.specs.Entries.{checked_number, Accepting}
 use Rattle.teldyzhom.specs.Kept.{CheckAsked}
 use Rattle.teldyzhom.proofs.Entering.{KeptAs}
@@ -49,19 +46,10 @@ accepting A bs ds b d to from =
       derivations_end = λ a. (accepted_terminates bs ds (to a)).1;
     }
 
-pub accepting_by : (A B : Type 0) (bs ds : List ℕ) → (B → A) → (A → B) → Accepting A bs ds → Accepting B bs ds
-accepting_by A B bs ds to from a =
-    record {
-      certified = λ b. a.certified (to b);
-      no_other = λ c. from (a.no_other c);
-      chains_end = λ b. a.chains_end (to b);
-      derivations_end = λ b. a.derivations_end (to b);
-    }
-
 -- 0 is accepted and no refusal
-pub is_accepted : (r : Checked) → checked_number r ≡ 0 → r ≡ Accepted
-is_accepted Accepted e = refl
-is_accepted (NotAccepted x) e = absurd (omega (arith, number_some x))
+pub is_accepted : (r : Result (Unit {0}) Refusal) → checked_number r ≡ 0 → r ≡ Ok tt
+is_accepted (Ok _) e = refl
+is_accepted (Err x) e = absurd (omega (arith, number_some x))
 
 -- THE LENGTH of the certificate
 pub too_long : (bs ds : List ℕ) → most_certificate_bytes < length ds → check bs ds ≡ 1
@@ -81,33 +69,24 @@ pub pack_stops : (bs ds : List ℕ) (x : Refusal) → length_bad most_certificat
 pack_stops bs ds x k e = pack_first bs ds (number_of x) k e
 
 -- THE CERTIFICATE
-pub certificate_refused : (o : Outcome (List Component)) (r : Answer) (x : Refusal) → CertificateRead o r → r ≡ Refused x → o ≡ refused (number_of x)
+pub certificate_refused : (o : Outcome (List Component)) (x : Refusal) → CertificateRead o (Err x) → o ≡ refused (number_of x)
 unfolding CertificateRead
-certificate_refused (refused n) r x a h =
-    let e : ◌≡◌ {A = Outcome ℕ} (refused (number_of x)) (refused n) = sym (ap answer_outcome h) ∙ a in
-    let same : n ≡ number_of x = cc in
-    ap refused same
-certificate_refused (passed cs) r x a h =
-    let e : ◌≡◌ {A = Outcome ℕ} (refused (number_of x)) (passed (length cs)) = sym (ap answer_outcome h) ∙ a in
-    absurd (let z : ◌≡◌ {A = ℕ} 0 1 = cc in omega arith)
+certificate_refused (refused n) x a = let same : n ≡ number_of x = cc in ap refused same
+certificate_refused (passed cs) x a = absurd (let z : ◌≡◌ {A = ℕ} 0 1 = cc in omega arith)
 
 pub record FoundAs (o : Outcome (List Component)) (components : ℕ) : Type 0 where
   pub all : List Component
   pub is : o ≡ passed all
   pub counted : components ≡ length all
 
-pub certificate_found : (o : Outcome (List Component)) (r : Answer) (n : ℕ) → CertificateRead o r → r ≡ Passed n → FoundAs o n
+pub certificate_found : (o : Outcome (List Component)) (n : ℕ) → CertificateRead o (Ok n) → FoundAs o n
 unfolding CertificateRead
-certificate_found (refused m) r n a h =
-    let e : passed n ≡ refused m = sym (ap answer_outcome h) ∙ a in
-    absurd (let z : ◌≡◌ {A = ℕ} 0 1 = cc in omega arith)
-certificate_found (passed cs) r n a h =
-    let e : passed n ≡ passed (length cs) = sym (ap answer_outcome h) ∙ a in
-    record { all = cs; is = refl; counted = cc }
+certificate_found (refused m) n a = absurd (let z : ◌≡◌ {A = ℕ} 0 1 = cc in omega arith)
+certificate_found (passed cs) n a = record { all = cs; is = refl; counted = cc }
 
 -- A CERTIFICATE OF A PACK THAT IS KEPT
-module _ {ds : List ℕ} {symbols rules : ℕ} {ar ss ns ms : List ℕ} (a : CheckAsked ds symbols rules ar ss ns ms) where
-  pub reading_asked : ReadingAsked ds symbols rules ar ss ns ms
+module _ {ds : List ℕ} {k : Pack} (a : CheckAsked ds k) where
+  pub reading_asked : ReadingAsked ds k.symbols k.rules k.arities k.starts k.nodes k.defined
   reading_asked = record { file = a.file; symbols_few = omega (arith, a.stored.symbols_are, a.stored.good.symbols); arrays = a.arrays }
 
   abbrev components_read : Outcome (List Component)
@@ -125,11 +104,11 @@ module _ {ds : List ℕ} {symbols rules : ℕ} {ar ss ns ms : List ℕ} (a : Che
   certificate_stops x e = rw (read_is ∙ e)
 
   module _ (components : ℕ) (w : FoundAs components_read components) where
-    abbrev pub judgeable : Judgeable ds components rules ar ss ns ms
+    abbrev pub judgeable : Judgeable ds components k.rules k.arities k.starts k.nodes k.defined
     judgeable =
         record {
           file = a.file;
-          kept = record { arrays = a.arrays; system = a.system; symbols = symbols; stored = a.stored };
+          kept = record { arrays = a.arrays; system = a.system; symbols = k.symbols; stored = a.stored };
           all = w.all;
           read = w.is;
           counted = w.counted;
@@ -139,15 +118,15 @@ module _ {ds : List ℕ} {symbols rules : ℕ} {ar ss ns ms : List ℕ} (a : Che
     unfolding check_read
     is_judged = rw (read_is ∙ w.is)
 
-    pub judge_stops : (r : Answer) (x : Refusal) → JudgedAs (judged a.system (plain a.system) w.all) r → r ≡ Refused x → number_of x ≡ checks
+    pub judge_stops : {A : Type 0} (x : Refusal) → JudgedAs {A = A} (judged a.system (plain a.system) w.all) (Err x) → number_of x ≡ checks
     unfolding JudgedAs
-    judge_stops r x h e = sym (is_judged ∙ sym h ∙ ap (λ (y : Answer). refusal (answer_outcome y)) e)
+    judge_stops x h = sym (is_judged ∙ sym h)
 
-    pub judge_passes : (r : Answer) (n : ℕ) → JudgedAs (judged a.system (plain a.system) w.all) r → r ≡ Passed n → 0 ≡ checks
+    pub judge_passes : {A : Type 0} (y : A) → JudgedAs (judged a.system (plain a.system) w.all) (Ok y) → 0 ≡ checks
     unfolding JudgedAs
-    judge_passes r n h e = sym (is_judged ∙ sym h ∙ ap (λ (y : Answer). refusal (answer_outcome y)) e)
+    judge_passes y h = sym (is_judged ∙ sym h)
 
 -- THE CHECK, of a pack that was read
-pub check_is : (bs ds : List ℕ) (c : Counts) (ar ss ns ms : List ℕ) (k : KeptAs (read_pack bs) c ar ss ns ms) → Whole most_certificate_bytes ds →
+pub check_is : (bs ds : List ℕ) (r : Pack) (k : KeptAs (read_pack bs) r) → Whole most_certificate_bytes ds →
     check_read k.system (read_certificate k.system ds) ≡ check bs ds
-check_is bs ds c ar ss ns ms k file = sym (check_then_read bs ds k.system (length_good ds file) k.is)
+check_is bs ds r k file = sym (check_then_read bs ds k.system (length_good ds file) k.is)

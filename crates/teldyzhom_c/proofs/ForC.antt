@@ -9,16 +9,13 @@ use lib.ListN.{length, get_or, length-append}
 use Rattle.rewriting.specs.Terms.{Tree, Rule, no_rule, System, rule}
 use Rattle.rewriting.specs.Pairs.{Pair, subterms, defined_root}
 use Rattle.records.specs.declared.Refusal.{Refusal}
-use Rattle.records.specs.declared.Answer.{Answer}
-use Rattle.records.specs.declared.Answer.TheVariants.{Passed, Refused}
+use Rattle.std.specs.Prelude.{Result, Ok, Err}
 use Rattle.records.specs.Outcomes.{Outcome, refused, passed, after, unless, refusal}
-use Rattle.records.specs.Answers.{number_of, answer_outcome}
+use Rattle.records.specs.Answers.{number_of, outcome_of}
 use Rattle.terms.proofs.Parsing.{length_flat}
 use Rattle.packs.specs.Encoding.{GoodPack, pack_bytes}
 use Rattle.packs.specs.PackReading.{most_pack_bytes, read_pack}
 use Rattle.packs.proofs.OnlyEncodings.{pack_good}
-use Rattle.pairs.specs.declared.ArcAnswer.{ArcAnswer}
-use Rattle.pairs.specs.declared.ArcAnswer.TheVariants.{Yes, No, Refused as ArcRefused}
 use Rattle.pairs.specs.Listing.{a_pair, pairs_from, pairs_of, pairs}
 use Rattle.pairs.specs.Answers.{listing, list_value}
 use Rattle.pairs.specs.Says.{count_outcome, ListedAs, ArcAs}
@@ -55,9 +52,9 @@ unfolding pairs rule
 pairs_few p g = omega (arith, g.rule_count, pairs_of_few 0 p p.rules (λ j h. omega (arith, g.rights j h, length_flat (rule p j).right)))
 
 -- the count that is answered
-pub listed_few : (bs : List ℕ) (room n : ℕ) (a : Answer) → ListedAs (listing bs room) a → a ≡ Passed n → n ≤ 2048
+pub listed_few : (bs : List ℕ) (room n : ℕ) (a : Result ℕ Refusal) → ListedAs (listing bs room) a → a ≡ Ok n → n ≤ 2048
 unfolding ListedAs count_outcome listing
-listed_few bs room n a says e = go (read_pack bs) refl (sym (ap answer_outcome e) ∙ says)
+listed_few bs room n a says e = go (read_pack bs) refl (sym (ap outcome_of e) ∙ says)
   where
     test : (p : System) → GoodPack p → (b : Bool) → passed n ≡ count_outcome (cond b (passed (pairs p)) (refused 14)) → n ≤ 2048
     test p g true h = let z : n ≡ length (pairs p) = cc in omega (arith, pairs_few p g)
@@ -68,36 +65,32 @@ listed_few bs room n a says e = go (read_pack bs) refl (sym (ap answer_outcome e
     go (passed p) f h = test p (pack_good bs p f) (leb (8 * length (pairs p)) room) h
 
 -- a refusal's number and 0
-pub list_number : (o : Outcome (List Pair)) (a : Answer) (x : Refusal) → ListedAs o a → a ≡ Refused x → (number_of x ≡ refusal o) × (0 ≡ list_value o)
+pub list_number : (o : Outcome (List Pair)) (a : Result ℕ Refusal) (x : Refusal) → ListedAs o a → a ≡ Err x → (number_of x ≡ refusal o) × (0 ≡ list_value o)
 unfolding ListedAs count_outcome list_value
-list_number (refused n) a x says e = let f = sym (ap answer_outcome e) ∙ says in (cc, refl)
-list_number (passed qs) a x says e = let f = sym (ap answer_outcome e) ∙ says in absurd (let z : ◌≡◌ {A = ℕ} 0 1 = cc in omega arith)
+list_number (refused n) a x says e = let f = sym (ap outcome_of e) ∙ says in (cc, refl)
+list_number (passed qs) a x says e = let f = sym (ap outcome_of e) ∙ says in absurd (let z : ◌≡◌ {A = ℕ} 0 1 = cc in omega arith)
 
 -- 0 and the count
-pub list_count : (o : Outcome (List Pair)) (a : Answer) (n : ℕ) → ListedAs o a → a ≡ Passed n → (0 ≡ refusal o) × (n ≡ list_value o)
+pub list_count : (o : Outcome (List Pair)) (a : Result ℕ Refusal) (n : ℕ) → ListedAs o a → a ≡ Ok n → (0 ≡ refusal o) × (n ≡ list_value o)
 unfolding ListedAs count_outcome list_value
-list_count (refused m) a n says e = let f = sym (ap answer_outcome e) ∙ says in absurd (let z : ◌≡◌ {A = ℕ} 0 1 = cc in omega arith)
-list_count (passed qs) a n says e = let f = sym (ap answer_outcome e) ∙ says in (refl, cc)
+list_count (refused m) a n says e = let f = sym (ap outcome_of e) ∙ says in absurd (let z : ◌≡◌ {A = ℕ} 0 1 = cc in omega arith)
+list_count (passed qs) a n says e = let f = sym (ap outcome_of e) ∙ says in (refl, cc)
 
--- the arc question's three answers
-pub arc_number : (o : Outcome Bool) (a : ArcAnswer) (x : Refusal) → ArcAs o a → a ≡ ArcRefused x → (number_of x ≡ refusal o) × (0 ≡ arc_value o)
+-- the arc question's answers
+pub arc_number : (o : Outcome Bool) (a : Result Bool Refusal) (x : Refusal) → ArcAs o a → a ≡ Err x → (number_of x ≡ refusal o) × (0 ≡ arc_value o)
 unfolding ArcAs arc_value
 arc_number o a x says e = rw (← says, e) (refl, refl)
 
-pub arc_yes : (o : Outcome Bool) (a : ArcAnswer) → ArcAs o a → a ≡ Yes → (◌≡◌ {A = ℕ} 0 (refusal o)) × (◌≡◌ {A = ℕ} 1 (arc_value o))
-unfolding ArcAs arc_value
-arc_yes o a says e = rw (← says, e) (refl, refl)
-
-pub arc_no : (o : Outcome Bool) (a : ArcAnswer) → ArcAs o a → a ≡ No → (◌≡◌ {A = ℕ} 0 (refusal o)) × (◌≡◌ {A = ℕ} 0 (arc_value o))
-unfolding ArcAs arc_value
-arc_no o a says e = rw (← says, e) (refl, refl)
+pub arc_told : (o : Outcome Bool) (a : Result Bool Refusal) (b : Bool) → ArcAs o a → a ≡ Ok b → (◌≡◌ {A = ℕ} 0 (refusal o)) × (arc_value (passed b) ≡ arc_value o)
+unfolding ArcAs
+arc_told o a b says e = rw (← says, e) (refl, refl)
 
 -- THE TEXT
 
 -- the length that is answered
-pub length_small : (bs : List ℕ) (room n : ℕ) (a : Answer) → ReadAs (text_pack bs room) a → a ≡ Passed n → n ≤ most_pack_bytes
+pub length_small : (bs : List ℕ) (room n : ℕ) (a : Result ℕ Refusal) → ReadAs (text_pack bs room) a → a ≡ Ok n → n ≤ most_pack_bytes
 unfolding ReadAs length_outcome text_pack
-length_small bs room n a says e = go (read_text bs) refl (sym (ap answer_outcome e) ∙ says)
+length_small bs room n a says e = go (read_text bs) refl (sym (ap outcome_of e) ∙ says)
   where
     test : (p : System) → length (pack_bytes p) ≤ most_pack_bytes → (b : Bool) → passed n ≡ length_outcome (unless b 14 (passed p)) → n ≤ most_pack_bytes
     test p g true h = let z : n ≡ length (pack_bytes p) = cc in omega arith
@@ -108,13 +101,13 @@ length_small bs room n a says e = go (read_text bs) refl (sym (ap answer_outcome
     go (passed p) f h = test p (read_small bs p f) (leb (length (pack_bytes p)) room) h
 
 -- a refusal's number and 0
-pub text_number : (o : Outcome System) (a : Answer) (x : Refusal) → ReadAs o a → a ≡ Refused x → (number_of x ≡ refusal o) × (0 ≡ pack_value o)
+pub text_number : (o : Outcome System) (a : Result ℕ Refusal) (x : Refusal) → ReadAs o a → a ≡ Err x → (number_of x ≡ refusal o) × (0 ≡ pack_value o)
 unfolding ReadAs length_outcome pack_value
-text_number (refused n) a x says e = let f = sym (ap answer_outcome e) ∙ says in (cc, refl)
-text_number (passed p) a x says e = let f = sym (ap answer_outcome e) ∙ says in absurd (let z : ◌≡◌ {A = ℕ} 0 1 = cc in omega arith)
+text_number (refused n) a x says e = let f = sym (ap outcome_of e) ∙ says in (cc, refl)
+text_number (passed p) a x says e = let f = sym (ap outcome_of e) ∙ says in absurd (let z : ◌≡◌ {A = ℕ} 0 1 = cc in omega arith)
 
 -- 0 and the length
-pub text_length : (o : Outcome System) (a : Answer) (n : ℕ) → ReadAs o a → a ≡ Passed n → (0 ≡ refusal o) × (n ≡ pack_value o)
+pub text_length : (o : Outcome System) (a : Result ℕ Refusal) (n : ℕ) → ReadAs o a → a ≡ Ok n → (0 ≡ refusal o) × (n ≡ pack_value o)
 unfolding ReadAs length_outcome pack_value
-text_length (refused m) a n says e = let f = sym (ap answer_outcome e) ∙ says in absurd (let z : ◌≡◌ {A = ℕ} 0 1 = cc in omega arith)
-text_length (passed p) a n says e = let f = sym (ap answer_outcome e) ∙ says in (refl, cc)
+text_length (refused m) a n says e = let f = sym (ap outcome_of e) ∙ says in absurd (let z : ◌≡◌ {A = ℕ} 0 1 = cc in omega arith)
+text_length (passed p) a n says e = let f = sym (ap outcome_of e) ∙ says in (refl, cc)

@@ -2,6 +2,7 @@
 #![tactic(auto)]
 
 ghost use Rattle.std.specs.Prelude.{◌≡◌, length};
+ghost use Rattle.records.specs.Answers.{number_of};
 ghost use Rattle.records.specs.Outcomes.{refusal};
 ghost use Rattle.pairs.specs.Listing.{a_pair};
 ghost use Rattle.pairs.specs.Answers.{listing, arc_question, buffer_after, list_value};
@@ -9,9 +10,7 @@ ghost use Rattle.judging.specs.Check.{check};
 ghost use Rattle.texts.specs.TextReading.{text_pack, pack_after, pack_value};
 ghost use Rattle.teldyzhom.specs.Entries.{Accepting, arc_value};
 
-use pairs::ArcAnswer;
-use records::Answer;
-use teldyzhom::Checked;
+use records::Refusal;
 
 // A refusal's number and 0, or 0 and a value.
 #[repr(C)]
@@ -21,6 +20,16 @@ pub struct Reply {
     pub value: u32,
 }
 
+// What is told of a refusal.
+fn refused(x: Refusal) -> Reply
+    ensures { (result.number ≡ number_of x) × (result.value ≡ 0) }
+{
+    Reply {
+        number: u32::from(x),
+        value: 0,
+    }
+}
+
 // 0 for accepted, with all that it means, or the refusal's number.
 #[unsafe(no_mangle)]
 pub extern "C" fn teldyzhom_check(pack: &[u8], certificate: &[u8]) -> u32
@@ -28,8 +37,8 @@ pub extern "C" fn teldyzhom_check(pack: &[u8], certificate: &[u8]) -> u32
     ensures means { Accepting (result ≡ 0) pack.now certificate.now }
 {
     match teldyzhom::check_certificate(pack, certificate) {
-        Checked::Accepted => 0,
-        Checked::Refused(x) => u32::from(x),
+        Ok(()) => 0,
+        Err(x) => u32::from(x),
     }
 }
 
@@ -41,11 +50,8 @@ pub extern "C" fn teldyzhom_list(pack: &[u8], list: &mut [u8]) -> Reply
     ensures leaves { list.new ≡ buffer_after (listing pack.now (length list.old)) list.old }
 {
     match teldyzhom::list_pairs(pack, list) {
-        Answer::Refused(x) => Reply {
-            number: u32::from(x),
-            value: 0,
-        },
-        Answer::Passed(n) => Reply {
+        Err(x) => refused(x),
+        Ok(n) => Reply {
             number: 0,
             value: n as u32,
         },
@@ -65,17 +71,10 @@ pub extern "C" fn teldyzhom_arc(
     ensures value { result.value ≡ arc_value (arc_question pack.now (a_pair rule place) (a_pair other_rule other_place)) }
 {
     match teldyzhom::arc_runs(pack, rule, place, other_rule, other_place) {
-        ArcAnswer::Refused(x) => Reply {
-            number: u32::from(x),
-            value: 0,
-        },
-        ArcAnswer::Yes => Reply {
+        Err(x) => refused(x),
+        Ok(runs) => Reply {
             number: 0,
-            value: 1,
-        },
-        ArcAnswer::No => Reply {
-            number: 0,
-            value: 0,
+            value: u32::from(runs),
         },
     }
 }
@@ -88,11 +87,8 @@ pub extern "C" fn teldyzhom_read_text(text: &[u8], pack: &mut [u8]) -> Reply
     ensures leaves { pack.new ≡ pack_after (text_pack text.now (length pack.old)) pack.old }
 {
     match teldyzhom::read_text(text, pack) {
-        Answer::Refused(x) => Reply {
-            number: u32::from(x),
-            value: 0,
-        },
-        Answer::Passed(n) => Reply {
+        Err(x) => refused(x),
+        Ok(n) => Reply {
             number: 0,
             value: n as u32,
         },

@@ -6,16 +6,16 @@ use Rattle.teldyzhom_c.proofs.teldyzhom_list.Goals as goal
 
 -- the count fits into 32 bits
 pub overflow_cast-result : goal.overflow_cast-result
-overflow_cast-result c = record { fits = omega (arith, listed_few _ _ _ _ c.list_pairs.ensures.says c.in-Passed.is) }
+overflow_cast-result c = record { fits = omega (arith, listed_few _ _ _ _ c.list_pairs.ensures.says c.in-Ok.is) }
 
-pub returns-in-Refused-clause-number : goal.returns-in-Refused-clause-number
-returns-in-Refused-clause-number c = c.number.ensures ∙ (list_number _ _ _ c.list_pairs.ensures.says c.in-Refused.is).0
+pub returns-in-Err-clause-number : goal.returns-in-Err-clause-number
+returns-in-Err-clause-number c = c.refused.ensures.0 ∙ (list_number _ _ _ c.list_pairs.ensures.says c.in-Err.is).0
 
-pub returns-in-Refused-clause-value : goal.returns-in-Refused-clause-value
-returns-in-Refused-clause-value c = (list_number _ _ _ c.list_pairs.ensures.says c.in-Refused.is).1
+pub returns-in-Err-clause-value : goal.returns-in-Err-clause-value
+returns-in-Err-clause-value c = c.refused.ensures.1 ∙ (list_number _ _ _ c.list_pairs.ensures.says c.in-Err.is).1
 
-pub returns-in-Passed-clause-number : goal.returns-in-Passed-clause-number
-returns-in-Passed-clause-number c = (list_count _ _ _ c.list_pairs.ensures.says c.in-Passed.is).0
+pub returns-in-Ok-clause-number : goal.returns-in-Ok-clause-number
+returns-in-Ok-clause-number c = (list_count _ _ _ c.list_pairs.ensures.says c.in-Ok.is).0
 
-pub returns-in-Passed-clause-value : goal.returns-in-Passed-clause-value
-returns-in-Passed-clause-value c = (list_count _ _ _ c.list_pairs.ensures.says c.in-Passed.is).1
+pub returns-in-Ok-clause-value : goal.returns-in-Ok-clause-value
+returns-in-Ok-clause-value c = (list_count _ _ _ c.list_pairs.ensures.says c.in-Ok.is).1

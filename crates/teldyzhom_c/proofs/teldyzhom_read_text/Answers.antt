@@ -6,16 +6,16 @@ use Rattle.teldyzhom_c.proofs.teldyzhom_read_text.Goals as goal
 
 -- the length fits into 32 bits
 pub overflow_cast-result : goal.overflow_cast-result
-overflow_cast-result c = record { fits = omega (arith, length_small _ _ _ _ c.read_text.ensures.says c.in-Passed.is) }
+overflow_cast-result c = record { fits = omega (arith, length_small _ _ _ _ c.read_text.ensures.says c.in-Ok.is) }
 
-pub returns-in-Refused-clause-number : goal.returns-in-Refused-clause-number
-returns-in-Refused-clause-number c = c.number.ensures ∙ (text_number _ _ _ c.read_text.ensures.says c.in-Refused.is).0
+pub returns-in-Err-clause-number : goal.returns-in-Err-clause-number
+returns-in-Err-clause-number c = c.refused.ensures.0 ∙ (text_number _ _ _ c.read_text.ensures.says c.in-Err.is).0
 
-pub returns-in-Refused-clause-value : goal.returns-in-Refused-clause-value
-returns-in-Refused-clause-value c = (text_number _ _ _ c.read_text.ensures.says c.in-Refused.is).1
+pub returns-in-Err-clause-value : goal.returns-in-Err-clause-value
+returns-in-Err-clause-value c = c.refused.ensures.1 ∙ (text_number _ _ _ c.read_text.ensures.says c.in-Err.is).1
 
-pub returns-in-Passed-clause-number : goal.returns-in-Passed-clause-number
-returns-in-Passed-clause-number c = (text_length _ _ _ c.read_text.ensures.says c.in-Passed.is).0
+pub returns-in-Ok-clause-number : goal.returns-in-Ok-clause-number
+returns-in-Ok-clause-number c = (text_length _ _ _ c.read_text.ensures.says c.in-Ok.is).0
 
-pub returns-in-Passed-clause-value : goal.returns-in-Passed-clause-value
-returns-in-Passed-clause-value c = (text_length _ _ _ c.read_text.ensures.says c.in-Passed.is).1
+pub returns-in-Ok-clause-value : goal.returns-in-Ok-clause-value
+returns-in-Ok-clause-value c = (text_length _ _ _ c.read_text.ensures.says c.in-Ok.is).1

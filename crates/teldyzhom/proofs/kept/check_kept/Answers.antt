@@ -1,25 +1,27 @@
 -- `teldyzhom::kept::check_kept` meets its contract: the certificate's refusal, then the judgement.
+use Rattle.records.proofs.Outcomes.{handed_on}
 use Rattle.teldyzhom.proofs.Checks.{reading_asked, certificate_refused, certificate_found, certificate_stops, judgeable, judge_stops, judge_passes}
 use Rattle.teldyzhom.proofs.kept.check_kept.Goals as goal
 
 pub read_components-requires : goal.read_components-requires
 read_components-requires c = reading_asked c.requires
 
-pub judge-judged-requires : goal.judge-judged-requires
-judge-judged-requires c =
+pub returns-in_err-components : goal.returns-in_err-components
+returns-in_err-components c = λ a.
+    rw (handed_on c.from_residual.result c.from_residual.ensures.1)
+    (certificate_stops a _ (certificate_refused _ _ (c.in_err-components.ensures a.system a.stored)))
+
+pub judge-requires : goal.judge-requires
+judge-requires c =
     let a = c.requires in
-    judgeable a _ (certificate_found _ _ _ (c.read_components.ensures a.system a.stored) c.in-Passed.is)
+    judgeable a _ (certificate_found _ _ (c.in_ok-components.ensures a.system a.stored))
 
-pub returns-in-Refused : goal.returns-in-Refused
-returns-in-Refused c = λ a.
-    certificate_stops a c.in-Refused.x (certificate_refused _ _ _ (c.read_components.ensures a.system a.stored) c.in-Refused.is)
+pub returns-in-Err : goal.returns-in-Err
+returns-in-Err c = λ a.
+    let found = certificate_found _ _ (c.in_ok-components.ensures a.system a.stored) in
+    judge_stops a _ found _ (c.in-Err.ensures (judgeable a _ found)).numbered
 
-pub returns-in-Refused-answer : goal.returns-in-Refused-answer
-returns-in-Refused-answer c = λ a.
-    let found = certificate_found _ _ _ (c.read_components.ensures a.system a.stored) c.in-Passed.is in
-    judge_stops a _ found _ _ (c.judge-judged.ensures (judgeable a _ found)).numbered c.in-Refused-answer.is
-
-pub returns-in-Passed-answer : goal.returns-in-Passed-answer
-returns-in-Passed-answer c = λ a.
-    let found = certificate_found _ _ _ (c.read_components.ensures a.system a.stored) c.in-Passed.is in
-    judge_passes a _ found _ _ (c.judge-judged.ensures (judgeable a _ found)).numbered c.in-Passed-answer.is
+pub returns-in-Ok : goal.returns-in-Ok
+returns-in-Ok c = λ a.
+    let found = certificate_found _ _ (c.in_ok-components.ensures a.system a.stored) in
+    judge_passes a _ found _ (c.in-Ok.ensures (judgeable a _ found)).numbered
