@@ -4,6 +4,7 @@ ghost use Rattle.records.specs.Answers.{outcome_of};
 ghost use Rattle.checker.specs.Working.{chosen, ComponentJudged, RefillAsked, Refilled, CallsAsked, CallsJudged, UnweightedAsked, TurnAsked, TurnJudged, WeightedAsked, WeightedJudged, ComponentAsked, ComponentAnswered, ComponentsAsked, ComponentsJudged};
 
 use crate::weighing::Tally;
+use pack_reader::Pack;
 use records::{MOST_PAIRS, Record, Refusal};
 use terms::{MOST_SYMBOLS, NODES_ROOM};
 use weights::Verdict;
@@ -68,14 +69,11 @@ fn judge_calls(
     verdict: Verdict,
     turn: Turn,
     lefts: &mut [u8; MOST_PAIRS],
-    arities: &[u8; MOST_SYMBOLS],
+    pack: &Pack,
     table: &mut [u16; CELLS],
-    starts: &[u16],
-    nodes: &[u8; NODES_ROOM],
-    rules: usize,
 ) -> Result<usize, Refusal>
-    requires { CallsAsked certificate.now from count middle rules arities.now starts.now nodes.now table.old lefts.old turn }
-    ensures { CallsJudged certificate.now from count middle rules arities.now starts.now nodes.now table.old table.new lefts.old lefts.new turn verdict result }
+    requires { CallsAsked certificate.now from count middle pack.now.rules pack.now.arities pack.now.starts pack.now.nodes table.old lefts.old turn }
+    ensures { CallsJudged certificate.now from count middle pack.now.rules pack.now.arities pack.now.starts pack.now.nodes table.old table.new lefts.old lefts.new turn verdict result }
 {
     let next = crate::weighing::fill(certificate, middle, b'M', table);
     let c = crate::weighing::judge_pairs(
@@ -85,11 +83,8 @@ fn judge_calls(
         turn.first,
         turn.number,
         lefts,
-        arities,
+        pack,
         table,
-        starts,
-        nodes,
-        rules,
     );
     crate::weighing::clear(certificate, middle, b'M', table);
     choose(verdict, c, turn.last, next)
@@ -107,13 +102,10 @@ fn one_weighting(
     before: Option<usize>,
     table: &mut [u16; CELLS],
     lefts: &mut [u8; MOST_PAIRS],
-    arities: &[u8; MOST_SYMBOLS],
-    starts: &[u16],
-    nodes: &[u8; NODES_ROOM],
-    rules: usize,
+    pack: &Pack,
 ) -> Result<usize, Refusal>
-    requires { TurnAsked certificate.now at count from before rules arities.now starts.now nodes.now table.old lefts.old turn }
-    ensures { TurnJudged certificate.now at count from before rules arities.now starts.now nodes.now table.old table.new lefts.old lefts.new turn result }
+    requires { TurnAsked certificate.now at count from before pack.now.rules pack.now.arities pack.now.starts pack.now.nodes table.old lefts.old turn }
+    ensures { TurnJudged certificate.now at count from before pack.now.rules pack.now.arities pack.now.starts pack.now.nodes table.old table.new lefts.old lefts.new turn result }
 {
     if let Some(before) = before
         && let Some(middle) = crate::weighing::same_weights(certificate, before, from)
@@ -126,15 +118,12 @@ fn one_weighting(
             Verdict::Holds,
             turn,
             lefts,
-            arities,
+            pack,
             table,
-            starts,
-            nodes,
-            rules,
         );
     }
     let middle = refill(certificate, before, from, table);
-    let r = crate::weighing::judge_rules(arities, table, starts, nodes, rules);
+    let r = crate::weighing::judge_rules(pack, table);
     // 11 whatever the pairs are.
     if r == Verdict::Over {
         return Err(Refusal::Heavy);
@@ -147,11 +136,8 @@ fn one_weighting(
         r,
         turn,
         lefts,
-        arities,
+        pack,
         table,
-        starts,
-        nodes,
-        rules,
     )
 }
 
@@ -166,13 +152,10 @@ fn weighted(
     before: Option<usize>,
     table: &mut [u16; CELLS],
     lefts: &mut [u8; MOST_PAIRS],
-    arities: &[u8; MOST_SYMBOLS],
-    starts: &[u16],
-    nodes: &[u8; NODES_ROOM],
-    rules: usize,
+    pack: &Pack,
 ) -> Result<Found, Refusal>
-    requires { WeightedAsked certificate.now at count weightings first before rules arities.now starts.now nodes.now table.old lefts.old }
-    ensures { WeightedJudged certificate.now at count weightings first before rules arities.now starts.now nodes.now table.old table.new lefts.old lefts.new result }
+    requires { WeightedAsked certificate.now at count weightings first before pack.now.rules pack.now.arities pack.now.starts pack.now.nodes table.old lefts.old }
+    ensures { WeightedJudged certificate.now at count weightings first before pack.now.rules pack.now.arities pack.now.starts pack.now.nodes table.old table.new lefts.old lefts.new result }
 {
     let mut weights = before;
     let mut from = at + 1 + count;
@@ -192,10 +175,7 @@ fn weighted(
             weights,
             table,
             lefts,
-            arities,
-            starts,
-            nodes,
-            rules,
+            pack,
         )?;
         weights = Some(from);
         // Past the L record of the next one.
@@ -209,22 +189,14 @@ fn weighted(
 }
 
 // A component without a weighting: 10. Answers the record after it.
-fn unweighted(
-    certificate: &[u8],
-    at: usize,
-    arities: &[u8; MOST_SYMBOLS],
-    starts: &[u16],
-    nodes: &[u8; NODES_ROOM],
-    defined: &[u8],
-    rules: usize,
-) -> Result<usize, Refusal>
-    requires { UnweightedAsked certificate.now at rules arities.now starts.now nodes.now defined.now }
-    ensures { (a : UnweightedAsked certificate.now at rules arities.now starts.now nodes.now defined.now) → ComponentJudged a.kept.system a.there.component at result }
+fn unweighted(certificate: &[u8], at: usize, pack: &Pack) -> Result<usize, Refusal>
+    requires { UnweightedAsked certificate.now at pack.now.rules pack.now.arities pack.now.starts pack.now.nodes pack.now.defined }
+    ensures { (a : UnweightedAsked certificate.now at pack.now.rules pack.now.arities pack.now.starts pack.now.nodes pack.now.defined) → ComponentJudged a.kept.system a.there.component at result }
 {
     let r = records::record_at(certificate, 8 * (at + 1));
     let rule = usize::from(r.a);
-    let right = usize::from(starts[2 * rule + 1]) + usize::from(r.b);
-    if pair_finder::arcs::arc_from(arities, starts, nodes, defined, right, rule) {
+    let right = usize::from(pack.starts[2 * rule + 1]) + usize::from(r.b);
+    if pair_finder::arcs::arc_from(pack, right, rule) {
         return Err(Refusal::SelfArc);
     }
     Ok(at + 2)
@@ -239,17 +211,13 @@ fn judge_component(
     before: Option<usize>,
     table: &mut [u16; CELLS],
     lefts: &mut [u8; MOST_PAIRS],
-    arities: &[u8; MOST_SYMBOLS],
-    starts: &[u16],
-    nodes: &[u8; NODES_ROOM],
-    defined: &[u8],
-    rules: usize,
+    pack: &Pack,
 ) -> Result<Found, Refusal>
-    requires { ComponentAsked certificate.now at header first before rules arities.now starts.now nodes.now defined.now table.old lefts.old }
-    ensures { ComponentAnswered certificate.now at header first before rules arities.now starts.now nodes.now defined.now table.old table.new lefts.old lefts.new result }
+    requires { ComponentAsked certificate.now at header first before pack.now.rules pack.now.arities pack.now.starts pack.now.nodes pack.now.defined table.old lefts.old }
+    ensures { ComponentAnswered certificate.now at header first before pack.now.rules pack.now.arities pack.now.starts pack.now.nodes pack.now.defined table.old table.new lefts.old lefts.new result }
 {
     if header.b == 0 {
-        let next = unweighted(certificate, at, arities, starts, nodes, defined, rules)?;
+        let next = unweighted(certificate, at, pack)?;
         return Ok(Found {
             next,
             weights: before,
@@ -264,10 +232,7 @@ fn judge_component(
         before,
         table,
         lefts,
-        arities,
-        starts,
-        nodes,
-        rules,
+        pack,
     )
 }
 
@@ -276,15 +241,11 @@ fn judge_component(
 pub fn judge_components(
     certificate: &[u8],
     components: usize,
-    rules: usize,
-    arities: &[u8; MOST_SYMBOLS],
-    starts: &[u16],
-    nodes: &[u8; NODES_ROOM],
-    defined: &[u8],
+    pack: &Pack,
     lefts: &mut [u8; MOST_PAIRS],
 ) -> Result<(), Refusal>
-    requires { ComponentsAsked certificate.now components rules arities.now starts.now nodes.now defined.now lefts.old }
-    ensures { ComponentsJudged certificate.now components rules arities.now starts.now nodes.now defined.now lefts.old lefts.new result }
+    requires { ComponentsAsked certificate.now components pack.now.rules pack.now.arities pack.now.starts pack.now.nodes pack.now.defined lefts.old }
+    ensures { ComponentsJudged certificate.now components pack.now.rules pack.now.arities pack.now.starts pack.now.nodes pack.now.defined lefts.old lefts.new result }
 {
     let mut table = [0u16; CELLS];
     let mut before = None;
@@ -300,11 +261,7 @@ pub fn judge_components(
             before,
             &mut table,
             lefts,
-            arities,
-            starts,
-            nodes,
-            defined,
-            rules,
+            pack,
         )?;
         before = found.weights;
         at = found.next;

@@ -4,6 +4,7 @@ ghost use Rattle.polynomials.specs.Polynomials.{Weight};
 ghost use Rattle.weights.specs.Table.{TableIs};
 ghost use Rattle.checker.specs.Working.{own_base, rules_verdict, with_verdict, number_after, Standing, PutAll, FillAsked, Filled, ClearAsked, Cleared, WeightsAgree, RulesAsked, PresentAsked, PresentJudged};
 
+use pack_reader::Pack;
 use records::{MOST_PAIRS, Record};
 use terms::{MOST_SYMBOLS, Marked, NODES_ROOM, Symbol};
 use weights::sums::SUMS;
@@ -98,22 +99,16 @@ pub fn same_weights(certificate: &[u8], before: usize, from: usize) -> Option<us
 }
 
 // All rules: over if one is, else failing if one fails.
-pub fn judge_rules(
-    arities: &[u8; MOST_SYMBOLS],
-    table: &[u16; CELLS],
-    starts: &[u16],
-    nodes: &[u8; NODES_ROOM],
-    rules: usize,
-) -> Verdict
-    requires { RulesAsked rules arities.now starts.now nodes.now }
-    ensures { (a : RulesAsked rules arities.now starts.now nodes.now) (ws ms : List Weight) → TableIs table.now ws → result ≡ rules_verdict a.kept.system ws ms }
+pub fn judge_rules(pack: &Pack, table: &[u16; CELLS]) -> Verdict
+    requires { RulesAsked pack.now.rules pack.now.arities pack.now.starts pack.now.nodes }
+    ensures { (a : RulesAsked pack.now.rules pack.now.arities pack.now.starts pack.now.nodes) (ws ms : List Weight) → TableIs table.now ws → result ≡ rules_verdict a.kept.system ws ms }
 {
     let mut found = Verdict::Holds;
-    for i in 0..rules {
-        let left = usize::from(starts[2 * i]);
-        let right = usize::from(starts[2 * i + 1]);
-        let end = usize::from(starts[2 * i + 2]);
-        match weights::judging::judge_rule(arities, table, nodes, left, right, end) {
+    for i in 0..pack.rules {
+        let left = usize::from(pack.starts[2 * i]);
+        let right = usize::from(pack.starts[2 * i + 1]);
+        let end = usize::from(pack.starts[2 * i + 2]);
+        match weights::judging::judge_rule(&pack.arities, table, &pack.nodes, left, right, end) {
             Verdict::Over => {
                 return Verdict::Over;
             }
@@ -168,14 +163,11 @@ pub fn judge_pairs(
     first: usize,
     number: u8,
     lefts: &mut [u8; MOST_PAIRS],
-    arities: &[u8; MOST_SYMBOLS],
+    pack: &Pack,
     table: &[u16; CELLS],
-    starts: &[u16],
-    nodes: &[u8; NODES_ROOM],
-    rules: usize,
 ) -> Tally
-    requires { PresentAsked certificate.now from count first number rules arities.now starts.now nodes.now lefts.old }
-    ensures { PresentJudged certificate.now from count first number rules arities.now starts.now nodes.now table.now lefts.old lefts.new result }
+    requires { PresentAsked certificate.now from count first number pack.now.rules pack.now.arities pack.now.starts pack.now.nodes lefts.old }
+    ensures { PresentJudged certificate.now from count first number pack.now.rules pack.now.arities pack.now.starts pack.now.nodes table.now lefts.old lefts.new result }
 {
     let mut sums = [0u64; SUMS];
     let mut last = None;
@@ -190,16 +182,32 @@ pub fn judge_pairs(
         if lefts[first + i] == number {
             let r = records::record_at(certificate, 8 * (from + i));
             let rule = usize::from(r.a);
-            let left = usize::from(starts[2 * rule]);
-            let middle = usize::from(starts[2 * rule + 1]);
-            let end = usize::from(starts[2 * rule + 2]);
+            let left = usize::from(pack.starts[2 * rule]);
+            let middle = usize::from(pack.starts[2 * rule + 1]);
+            let end = usize::from(pack.starts[2 * rule + 2]);
             let right = middle + usize::from(r.b);
             if last != Some(rule) {
                 sums = [0u64; SUMS];
-                weights::judging::marked_side(arities, table, nodes, left, middle, true, &mut sums);
+                weights::judging::marked_side(
+                    &pack.arities,
+                    table,
+                    &pack.nodes,
+                    left,
+                    middle,
+                    true,
+                    &mut sums,
+                );
                 last = Some(rule);
             }
-            let v = weights::judging::judge_call(arities, table, nodes, right, end, true, &sums);
+            let v = weights::judging::judge_call(
+                &pack.arities,
+                table,
+                &pack.nodes,
+                right,
+                end,
+                true,
+                &sums,
+            );
             found = noted(found, v);
             if found.over {
                 return found;

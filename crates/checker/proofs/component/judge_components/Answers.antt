@@ -34,7 +34,7 @@ judge_component-requires c =
 
 pub returns-in_err-found : goal.returns-in_err-found
 returns-in_err-found c =
-    let Asked : Type 0 = ComponentsAsked c.args.certificate.now c.args.components c.args.rules c.args.arities.now c.args.starts.now c.args.nodes.now c.args.defined.now c.args.lefts.now in
+    let Asked : Type 0 = ComponentsAsked c.args.certificate.now c.args.components c.args.pack.now.rules c.args.pack.now.arities c.args.pack.now.starts c.args.pack.now.nodes c.args.pack.now.defined c.args.lefts.now in
     let l = c.loop-i in
     let x = c.in_err-found.field-0.0 in
     let number : (a : Asked) → number_of x ≡ components_refusal a.kept.system (plain a.kept.system) a.all =

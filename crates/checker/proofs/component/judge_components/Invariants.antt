@@ -10,4 +10,4 @@ use Rattle.checker.proofs.component.judge_components.Given as goal
 abbrev pub invariant-loop-i : goal.invariant-loop-i
 invariant-loop-i l =
     MarkedIs l.table []
-    × ((a : ComponentsAsked l.certificate l.components l.rules l.arities l.starts l.nodes l.defined l.initial.lefts) → Left a l.at l.first l._i l.before l.table l.lefts)
+    × ((a : ComponentsAsked l.certificate l.components l.pack.rules l.pack.arities l.pack.starts l.pack.nodes l.pack.defined l.initial.lefts) → Left a l.at l.first l._i l.before l.table l.lefts)

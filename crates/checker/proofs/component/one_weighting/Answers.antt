@@ -82,7 +82,7 @@ judge_rules-r-requires c = c.requires.present_asked.pairs_asked.asked
 pub returns-then-eq : goal.returns-then-eq
 returns-then-eq c =
     let Asked : Type 0 =
-    TurnAsked c.args.certificate.now c.args.at c.args.count c.args.from c.args.before c.args.rules c.args.arities.now c.args.starts.now c.args.nodes.now c.args.table.now c.args.lefts.now c.args.turn in
+    TurnAsked c.args.certificate.now c.args.at c.args.count c.args.from c.args.before c.args.pack.now.rules c.args.pack.now.arities c.args.pack.now.starts c.args.pack.now.nodes c.args.table.now c.args.lefts.now c.args.turn in
     let holds : (a : Asked) → TableIs c.refill-middle.new.table a.weighting.weights = λ a. c.refill-middle.ensures.holds a.weighting.weights a.stands.weights_stand in
     let rules_are : (a : Asked) → c.judge_rules-r.result ≡ rules_verdict a.present_asked.pairs_asked.asked.kept.system a.weighting.weights a.weighting.marked =
     λ a. c.judge_rules-r.ensures a.present_asked.pairs_asked.asked a.weighting.weights a.weighting.marked (holds a) in
@@ -101,7 +101,7 @@ overflow_add-at-2 c = omega (arith, c.requires.after_pairs)
 pub judge_calls-requires-2 : goal.judge_calls-requires-2
 judge_calls-requires-2 c =
     let Asked : Type 0 =
-    TurnAsked c.args.certificate.now c.args.at c.args.count c.args.from c.args.before c.args.rules c.args.arities.now c.args.starts.now c.args.nodes.now c.args.table.now c.args.lefts.now c.args.turn in
+    TurnAsked c.args.certificate.now c.args.at c.args.count c.args.from c.args.before c.args.pack.now.rules c.args.pack.now.arities c.args.pack.now.starts c.args.pack.now.nodes c.args.table.now c.args.lefts.now c.args.turn in
     let ends : (a : Asked) → c.refill-middle.result ≡ c.args.from + length a.weighting.weights = λ a. c.refill-middle.ensures.ends a.weighting.weights a.stands.weights_stand in
     let a = c.requires in
     calls_there a (ends a) (c.refill-middle.ensures.marked_stay [] a.unmarked)
@@ -109,7 +109,7 @@ judge_calls-requires-2 c =
 pub returns-2 : goal.returns-2
 returns-2 c =
     let Asked : Type 0 =
-    TurnAsked c.args.certificate.now c.args.at c.args.count c.args.from c.args.before c.args.rules c.args.arities.now c.args.starts.now c.args.nodes.now c.args.table.now c.args.lefts.now c.args.turn in
+    TurnAsked c.args.certificate.now c.args.at c.args.count c.args.from c.args.before c.args.pack.now.rules c.args.pack.now.arities c.args.pack.now.starts c.args.pack.now.nodes c.args.table.now c.args.lefts.now c.args.turn in
     let holds : (a : Asked) → TableIs c.refill-middle.new.table a.weighting.weights = λ a. c.refill-middle.ensures.holds a.weighting.weights a.stands.weights_stand in
     let ends : (a : Asked) → c.refill-middle.result ≡ c.args.from + length a.weighting.weights = λ a. c.refill-middle.ensures.ends a.weighting.weights a.stands.weights_stand in
     let rules_are : (a : Asked) → c.judge_rules-r.result ≡ rules_verdict a.present_asked.pairs_asked.asked.kept.system a.weighting.weights a.weighting.marked =

@@ -108,8 +108,8 @@ record_at-r-requires c =
     let next_within : c.args.at + 1 < length c.args.certificate.now / 8 = (its_record c.requires).0 in
     omega (arith, next_within)
 
-pub bounds-starts-rule : goal.bounds-starts-rule
-bounds-starts-rule c = omega (arith, in_rules c.requires c.record_at-r.ensures)
+pub bounds-pack-rule : goal.bounds-pack-rule
+bounds-pack-rule c = omega (arith, in_rules c.requires c.record_at-r.ensures)
 
 pub arc_from-requires : goal.arc_from-requires
 arc_from-requires c = rw (c.from.ensures, c.from-2.ensures, c.from-rule.ensures) (asked c.requires c.record_at-r.ensures)

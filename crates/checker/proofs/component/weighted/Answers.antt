@@ -38,7 +38,7 @@ pub returns-in_err-next : goal.returns-in_err-next
 returns-in_err-next c =
     let l = c.loop-number in
     let judged = c.in_err-next.ensures in
-    let stops : (a : WeightedAsked c.args.certificate.now c.args.at c.args.count c.args.weightings c.args.first c.args.before c.args.rules c.args.arities.now c.args.starts.now c.args.nodes.now c.args.table.now c.args.lefts.now) →
+    let stops : (a : WeightedAsked c.args.certificate.now c.args.at c.args.count c.args.weightings c.args.first c.args.before c.args.pack.now.rules c.args.pack.now.arities c.args.pack.now.starts c.args.pack.now.nodes c.args.table.now c.args.lefts.now) →
     ComponentJudged a.asked.kept.system a.there.component c.args.at (Err c.in_err-next.field-0.0) =
     λ a. let s = l.invariant.2 a in
     let more = c.loop-number-test.true in

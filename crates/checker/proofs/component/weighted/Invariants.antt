@@ -11,4 +11,4 @@ abbrev pub invariant-loop-number : goal.invariant-loop-number
 invariant-loop-number l =
     MarkedIs l.table []
     × OthersAsBefore l.first (l.first + l.count) l.initial.lefts l.lefts
-    × ((a : WeightedAsked l.certificate l.at l.count l.weightings l.first l.fn.before l.rules l.arities l.starts l.nodes l.initial.table l.initial.lefts) → SoFar a l.number l.from l.weights l.table l.lefts)
+    × ((a : WeightedAsked l.certificate l.at l.count l.weightings l.first l.fn.before l.pack.rules l.pack.arities l.pack.starts l.pack.nodes l.initial.table l.initial.lefts) → SoFar a l.number l.from l.weights l.table l.lefts)

@@ -146,14 +146,14 @@ its_rule : {cert : List ℕ} {from count rules : ℕ} {ar ss ns : List ℕ} (a :
     r ≡ record_at cert (8 * (from + i)) → {n : ℕ} → n ≡ r.a → 2 * n + 2 < length ss
 its_rule a i h read e = let laid = a.asked.kept.arrays.laid in omega (arith, e, in_rules a i h read, laid.few, laid.starts_long)
 
-pub bounds-starts-rule : goal.bounds-starts-rule
-bounds-starts-rule c = omega (arith, its_rule c.requires.pairs_asked c.loop-i.i c.loop-i-test.true c.record_at-r.ensures c.from-rule.ensures)
+pub bounds-pack-rule : goal.bounds-pack-rule
+bounds-pack-rule c = omega (arith, its_rule c.requires.pairs_asked c.loop-i.i c.loop-i-test.true c.record_at-r.ensures c.from-rule.ensures)
 
-pub bounds-starts-rule-then-lefts-first : goal.bounds-starts-rule-then-lefts-first
-bounds-starts-rule-then-lefts-first c = omega (arith, its_rule c.requires.pairs_asked c.loop-i.i c.loop-i-test.true c.record_at-r.ensures c.from-rule.ensures)
+pub bounds-pack-rule-then-lefts-first : goal.bounds-pack-rule-then-lefts-first
+bounds-pack-rule-then-lefts-first c = omega (arith, its_rule c.requires.pairs_asked c.loop-i.i c.loop-i-test.true c.record_at-r.ensures c.from-rule.ensures)
 
-pub bounds-starts-rule-then-lefts-first-2 : goal.bounds-starts-rule-then-lefts-first-2
-bounds-starts-rule-then-lefts-first-2 c = its_rule c.requires.pairs_asked c.loop-i.i c.loop-i-test.true c.record_at-r.ensures c.from-rule.ensures
+pub bounds-pack-rule-then-lefts-first-2 : goal.bounds-pack-rule-then-lefts-first-2
+bounds-pack-rule-then-lefts-first-2 c = omega (arith, its_rule c.requires.pairs_asked c.loop-i.i c.loop-i-test.true c.record_at-r.ensures c.from-rule.ensures)
 
 pub marked_side-requires : goal.marked_side-requires
 marked_side-requires c =
@@ -165,12 +165,12 @@ marked_side-requires c =
 pub judge_call-v-requires : goal.judge_call-v-requires
 judge_call-v-requires c =
     let a = c.args in
-    let kept : LeftKept a.arities.now a.nodes.now a.table.now a.starts.now (Some c.record_at-r.result.a) c.if-ne.sums =
+    let kept : LeftKept a.pack.now.arities a.pack.now.nodes a.table.now a.pack.now.starts (Some c.record_at-r.result.a) c.if-ne.sums =
     elim c.if-ne.branch [
       | then-ne z ↦
-          kept_as _ _ _ a.starts.now refl z.sums-is
+          kept_as _ _ _ a.pack.now.starts refl z.sums-is
           (side_kept _ _ _ _ _ _ z.marked_side.ensures.long (rw (c.from-left.ensures, c.from-middle.ensures, c.from-rule.ensures) at z.marked_side.ensures.side_summed))
-      | else-ne z ↦ kept_as _ _ _ a.starts.now (ap (λ (n : ℕ). Some n) (sym c.from-rule.ensures) ∙ sym (same_rule c.loop-i.last c.from-rule.result z.if-ne.ensures)) z.sums-is c.loop-i.invariant.0
+      | else-ne z ↦ kept_as _ _ _ a.pack.now.starts (ap (λ (n : ℕ). Some n) (sym c.from-rule.ensures) ∙ sym (same_rule c.loop-i.last c.from-rule.result z.if-ne.ensures)) z.sums-is c.loop-i.invariant.0
     ] in
     let asked = c.requires.pairs_asked in
     rw (c.from-middle.ensures, c.from-end.ensures, c.from.ensures, c.from-rule.ensures)
@@ -181,12 +181,12 @@ returns-then-found c =
     let g = c.args in
     let h = c.loop-i-test.true in
     let inv = c.loop-i.invariant in
-    let kept : LeftKept g.arities.now g.nodes.now g.table.now g.starts.now (Some c.record_at-r.result.a) c.if-ne.sums =
+    let kept : LeftKept g.pack.now.arities g.pack.now.nodes g.table.now g.pack.now.starts (Some c.record_at-r.result.a) c.if-ne.sums =
     elim c.if-ne.branch [
       | then-ne z ↦
-          kept_as _ _ _ g.starts.now refl z.sums-is
+          kept_as _ _ _ g.pack.now.starts refl z.sums-is
           (side_kept _ _ _ _ _ _ z.marked_side.ensures.long (rw (c.from-left.ensures, c.from-middle.ensures, c.from-rule.ensures) at z.marked_side.ensures.side_summed))
-      | else-ne z ↦ kept_as _ _ _ g.starts.now (ap (λ (n : ℕ). Some n) (sym c.from-rule.ensures) ∙ sym (same_rule c.loop-i.last c.from-rule.result z.if-ne.ensures)) z.sums-is inv.0
+      | else-ne z ↦ kept_as _ _ _ g.pack.now.starts (ap (λ (n : ℕ). Some n) (sym c.from-rule.ensures) ∙ sym (same_rule c.loop-i.last c.from-rule.result z.if-ne.ensures)) z.sums-is inv.0
     ] in
     let judged = rw (c.from-middle.ensures, c.from-end.ensures, c.from.ensures, c.from-rule.ensures) at c.judge_call-v.ensures in
     record {
@@ -204,12 +204,12 @@ loop-i-preserved c =
     let inv = c.loop-i.invariant in
     elim c.if-lefts-first.branch [
       | then-lefts-first+else-found w ↦
-          let kept : LeftKept g.arities.now g.nodes.now g.table.now g.starts.now (Some w.record_at-r.result.a) w.if-ne.sums =
+          let kept : LeftKept g.pack.now.arities g.pack.now.nodes g.table.now g.pack.now.starts (Some w.record_at-r.result.a) w.if-ne.sums =
           elim w.if-ne.branch [
             | then-ne z ↦
-                kept_as _ _ _ g.starts.now refl z.sums-is
+                kept_as _ _ _ g.pack.now.starts refl z.sums-is
                 (side_kept _ _ _ _ _ _ z.marked_side.ensures.long (rw (w.from-left.ensures, w.from-middle.ensures, w.from-rule.ensures) at z.marked_side.ensures.side_summed))
-            | else-ne z ↦ kept_as _ _ _ g.starts.now (ap (λ (n : ℕ). Some n) (sym w.from-rule.ensures) ∙ sym (same_rule c.loop-i.last w.from-rule.result z.if-ne.ensures)) z.sums-is inv.0
+            | else-ne z ↦ kept_as _ _ _ g.pack.now.starts (ap (λ (n : ℕ). Some n) (sym w.from-rule.ensures) ∙ sym (same_rule c.loop-i.last w.from-rule.result z.if-ne.ensures)) z.sums-is inv.0
           ] in
           let last_is : w.if-ne.last ≡ Some w.record_at-r.result.a =
           elim w.if-ne.branch [

@@ -31,6 +31,6 @@ JudgedBefore certificate from count first number rules arities starts nodes tabl
 
 abbrev pub invariant-loop-i : goal.invariant-loop-i
 invariant-loop-i l =
-    LeftKept l.arities l.nodes l.table l.starts l.last l.sums
+    LeftKept l.pack.arities l.pack.nodes l.table l.pack.starts l.last l.sums
     × OthersAsBefore l.first (l.first + l.i) l.initial.lefts l.lefts
-    × JudgedBefore l.certificate l.from l.count l.first l.number l.rules l.arities l.starts l.nodes l.table l.initial.lefts l.lefts l.i l.found
+    × JudgedBefore l.certificate l.from l.count l.first l.number l.pack.rules l.pack.arities l.pack.starts l.pack.nodes l.table l.initial.lefts l.lefts l.i l.found

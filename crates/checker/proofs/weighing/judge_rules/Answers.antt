@@ -70,14 +70,14 @@ pub loop-i-init : goal.loop-i-init
 unfolding fails
 loop-i-init c = (refl, λ a ws vs t. none_judged _ _ _)
 
-pub bounds-starts-i : goal.bounds-starts-i
-bounds-starts-i c = omega (arith, c.requires.kept.arrays.laid)
+pub bounds-pack-i : goal.bounds-pack-i
+bounds-pack-i c = omega (arith, c.requires.kept.arrays.laid)
 
-pub bounds-starts-i-in-loop-i : goal.bounds-starts-i-in-loop-i
-bounds-starts-i-in-loop-i c = omega (arith, c.requires.kept.arrays.laid)
+pub bounds-pack-i-in-loop-i : goal.bounds-pack-i-in-loop-i
+bounds-pack-i-in-loop-i c = omega (arith, c.requires.kept.arrays.laid)
 
-pub bounds-starts-i-in-loop-i-2 : goal.bounds-starts-i-in-loop-i-2
-bounds-starts-i-in-loop-i-2 c = omega (arith, c.requires.kept.arrays.laid)
+pub bounds-pack-i-in-loop-i-2 : goal.bounds-pack-i-in-loop-i-2
+bounds-pack-i-in-loop-i-2 c = omega (arith, c.requires.kept.arrays.laid)
 
 pub judge_rule-requires : goal.judge_rule-requires
 judge_rule-requires c =

@@ -21,4 +21,4 @@ RulesLeft p ws vs i failed = ToJudge (rule_over (weighting ws vs)) (rules_hold (
 abbrev pub invariant-loop-i : goal.invariant-loop-i
 invariant-loop-i l =
     (l.found ≡ cond (fails l.found) Fails Holds)
-    × ((a : RulesAsked l.rules l.arities l.starts l.nodes) (ws vs : List Weight) → TableIs l.table ws → RulesLeft a.kept.system ws vs l.i (fails l.found))
+    × ((a : RulesAsked l.pack.rules l.pack.arities l.pack.starts l.pack.nodes) (ws vs : List Weight) → TableIs l.table ws → RulesLeft a.kept.system ws vs l.i (fails l.found))
