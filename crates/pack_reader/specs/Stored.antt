@@ -236,6 +236,13 @@ RulesRead (passed p) ar x ss ns =
 abbrev pub KeptIn : System → Pack → Type 0
 KeptIn p k = Stored p k.symbols k.rules k.arities k.starts k.nodes k.defined
 
+-- the arrays have the lengths of their types
+pub record Room (k : Pack) : Type 0 where
+  pub arities_long : length k.arities ≡ symbols_room
+  pub starts_long : length k.starts ≡ starts_room
+  pub nodes_long : length k.nodes ≡ nodes_room
+  pub flags_long : length k.defined ≡ symbols_room
+
 unfoldable pub PackReadAs : Outcome System → Result (Unit {0}) Refusal → Pack → Type 0
 PackReadAs (refused n) x k = (y : Refusal) × (x ≡ Err y) × (number_of y ≡ n)
-PackReadAs (passed p) x k = (x ≡ Ok tt) × KeptIn p k
+PackReadAs (passed p) x k = (x ≡ Ok tt) × KeptIn p k × Room k

@@ -1,5 +1,5 @@
 -- What the readers' answers tell, and the entries' answers from them.
-use mathlib.Core.Path.{◌≡◌, refl, sym, ap, subst, ◌∙◌}
+use mathlib.Core.Path.{◌≡◌, refl, sym, ap, ◌∙◌}
 use mathlib.Core.Bool.{Bool, true, false, cond}
 use mathlib.Core.List.{List, ◌++◌}
 use Prim.Native.Nat.{ℕ, ◌+◌, ◌*◌, ◌/◌, ◌≤◌, ◌<◌}
@@ -13,11 +13,10 @@ use Rattle.records.specs.declared.Refusal.{Refusal}
 use Rattle.records.specs.declared.Refusal.TheVariants.{ShortList}
 use Rattle.std.specs.Prelude.{Result, Ok, Err}
 use Rattle.records.specs.Outcomes.{Outcome, refused, passed}
-use Rattle.records.specs.Answers.{number_of, outcome_of}
+use Rattle.records.specs.Answers.{number_of}
 use Rattle.pack_reader.specs.declared.Pack.{Pack}
 use Rattle.packs.specs.PackReading.{read_pack}
-use Rattle.terms.specs.Kept.{nodes_room, starts_room, symbols_room}
-use Rattle.pack_reader.specs.Stored.{KeptIn, PackReadAs}
+use Rattle.pack_reader.specs.Stored.{KeptIn, Room, PackReadAs}
 use Rattle.pairs.specs.Listing.{a_pair, pairs, pair_bytes}
 use Rattle.pairs.specs.Arcs.{arc}
 use Rattle.pairs.specs.Answers.{listing, buffer_after, arc_question}
@@ -32,35 +31,29 @@ pub record KeptAs (o : Outcome System) (k : Pack) : Type 0 where
   pub system : System
   pub is : o ≡ passed system
   pub stored : KeptIn system k
+  pub room : Room k
 
 pub pack_refused : (o : Outcome System) (k : Pack) (x : Refusal) → PackReadAs o (Err x) k → o ≡ refused (number_of x)
 unfolding PackReadAs
 pack_refused (refused n) k x (y, e, f) = let g : y ≡ x = cc in ap refused (sym f ∙ ap number_of g)
-pack_refused (passed p) k x (e, _) = absurd (let z : ◌≡◌ {A = ℕ} 0 1 = cc in omega arith)
+pack_refused (passed p) k x (e, _, _) = absurd (let z : ◌≡◌ {A = ℕ} 0 1 = cc in omega arith)
 
 pub pack_kept : (o : Outcome System) (k : Pack) (u : Unit {0}) → PackReadAs o (Ok u) k → KeptAs o k
 unfolding PackReadAs
 pack_kept (refused n) k u (y, e, f) = absurd (let z : ◌≡◌ {A = ℕ} 0 1 = cc in omega arith)
-pack_kept (passed p) k u (e, h) = record { system = p; is = refl; stored = h }
+pack_kept (passed p) k u (e, h, room) = record { system = p; is = refl; stored = h; room = room }
 
--- the arrays have the lengths of their types
-pub record Long (k : Pack) : Type 0 where
-  pub arities_long : length k.arities ≡ symbols_room
-  pub starts_long : length k.starts ≡ starts_room
-  pub nodes_long : length k.nodes ≡ nodes_room
-  pub flags_long : length k.defined ≡ symbols_room
-
-pub arrays_kept : {o : Outcome System} {k : Pack} → KeptAs o k → Long k → KeptPack k.rules k.arities k.starts k.nodes k.defined
-arrays_kept a long =
+pub arrays_kept : {o : Outcome System} {k : Pack} → KeptAs o k → KeptPack k.rules k.arities k.starts k.nodes k.defined
+arrays_kept a =
     record {
-      laid = stored_laid _ _ _ _ _ _ _ a.stored long.starts_long;
-      arities_long = long.arities_long;
-      flags_long = long.flags_long;
-      nodes_long = omega (arith, long.nodes_long);
+      laid = stored_laid _ _ _ _ _ _ _ a.stored a.room.starts_long;
+      arities_long = a.room.arities_long;
+      flags_long = a.room.flags_long;
+      nodes_long = omega (arith, a.room.nodes_long);
     }
 
-abbrev pub system_kept : {o : Outcome System} {k : Pack} → KeptAs o k → Long k → SystemIn k
-system_kept a long = record { arrays = arrays_kept a long; system = a.system; symbols = _; stored = a.stored }
+abbrev pub system_kept : {o : Outcome System} {k : Pack} → KeptAs o k → SystemIn k
+system_kept a = record { arrays = arrays_kept a; system = a.system; symbols = _; stored = a.stored }
 
 -- THE LISTING
 

@@ -1,5 +1,5 @@
 -- What the reader of texts answers and writes, from the answers of the functions that it calls.
-use mathlib.Core.Path.{◌≡◌, refl, sym, ap, subst, ◌∙◌}
+use mathlib.Core.Path.{◌≡◌, refl, sym, ap, ◌∙◌}
 use mathlib.Core.List.{List}
 use Prim.Native.Nat.{ℕ, ◌≤◌, ◌<◌}
 use native.Mathlib.Omega.{arith}
@@ -16,7 +16,6 @@ use Rattle.pack_reader.specs.declared.Pack.{Pack}
 use Rattle.pack_writer.specs.Writing.{PackAsked, WritingAsked, written}
 use Rattle.texts.specs.TextReading.{read_text, text_pack, pack_after}
 use Rattle.texts.specs.Says.{length_outcome, ReadAs}
-use Rattle.teldyzhom.proofs.Entering.{Long}
 use Rattle.text_reader.specs.Tables.{PackTold}
 
 -- THE TEXT
@@ -29,19 +28,19 @@ pub record TextKept (o : Outcome System) (k : Pack) : Type 0 where
 pub text_refused : (o : Outcome System) (k : Pack) (x : Refusal) → PackTold o (Err x) k → o ≡ refused (number_of x)
 unfolding PackTold
 text_refused (refused n) k x (y, e, f) = let g : y ≡ x = cc in ap refused (sym f ∙ ap number_of g)
-text_refused (passed p) k x (e, _, _, _) = absurd (let z : ◌≡◌ {A = ℕ} 0 1 = cc in omega arith)
+text_refused (passed p) k x (e, _, _, _, _) = absurd (let z : ◌≡◌ {A = ℕ} 0 1 = cc in omega arith)
 
-pub text_kept : (o : Outcome System) (k : Pack) (u : Unit {0}) → Long k → PackTold o (Ok u) k → TextKept o k
+pub text_kept : (o : Outcome System) (k : Pack) (u : Unit {0}) → PackTold o (Ok u) k → TextKept o k
 unfolding PackTold
-text_kept (refused n) k u long (y, e, f) = absurd (let z : ◌≡◌ {A = ℕ} 0 1 = cc in omega arith)
-text_kept (passed p) k u long (e, w, few, rules_few) =
+text_kept (refused n) k u (y, e, f) = absurd (let z : ◌≡◌ {A = ℕ} 0 1 = cc in omega arith)
+text_kept (passed p) k u (e, room, w, few, rules_few) =
     record {
       pack = record {
         symbols_few = few;
         rules_few = rules_few;
-        arities_long = long.arities_long;
-        starts_long = long.starts_long;
-        nodes_long = long.nodes_long;
+        arities_long = room.arities_long;
+        starts_long = room.starts_long;
+        nodes_long = room.nodes_long;
         system = p;
         writable = w;
       };

@@ -1,5 +1,4 @@
 -- `teldyzhom::list_pairs` meets its contract: the pack's answer first, then its pairs are counted and written.
-use native.Mathlib.Omega.{arith}
 use Rattle.records.proofs.Outcomes.{handed_on}
 use Rattle.pair_finder.proofs.FromStore.{stored_laid}
 use Rattle.teldyzhom.proofs.Entering.{pack_refused, pack_kept, Lists, lists_refused, lists_short, room_enough, lists_all}
@@ -16,12 +15,13 @@ returns-in_err-read_pack-clause-leaves c = (lists_refused _ c.args.list.now _ (p
 
 pub count_pairs-n-requires : goal.count_pairs-n-requires
 count_pairs-n-requires c =
-    stored_laid _ _ _ _ _ _ _ (pack_kept _ _ _ c.in_ok-read_pack.ensures).stored (omega arith)
+    let k = pack_kept _ _ _ c.in_ok-read_pack.ensures in
+    stored_laid _ _ _ _ _ _ _ k.stored k.room.starts_long
 
 pub write_pairs-requires : goal.write_pairs-requires
 write_pairs-requires c =
     let k = pack_kept _ _ _ c.in_ok-read_pack.ensures in (
-      stored_laid _ _ _ _ _ _ _ k.stored (omega arith),
+      stored_laid _ _ _ _ _ _ _ k.stored k.room.starts_long,
       room_enough _ _ k c.args.list.now _ c.count_pairs-n.ensures c.if-list-n.false,
     )
 

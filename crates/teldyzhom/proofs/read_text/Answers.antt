@@ -1,5 +1,4 @@
 -- `teldyzhom::read_text` meets its contract: the text's answer first, then its pack is measured and written.
-use native.Mathlib.Omega.{arith}
 use Rattle.records.proofs.Outcomes.{handed_on}
 use Rattle.teldyzhom.proofs.Reading.{text_refused, text_kept, Reads, reads_refused, reads_short, may_write, reads_all}
 use Rattle.teldyzhom.proofs.read_text.Goals as goal
@@ -14,28 +13,28 @@ unfolding Reads
 returns-in_err-read_text-clause-leaves c = (reads_refused _ c.args.pack.now _ (text_refused _ _ _ c.in_err-read_text.ensures)).1
 
 pub pack_length-size-requires : goal.pack_length-size-requires
-pack_length-size-requires c = (text_kept _ _ _ (record { arities_long = omega arith; starts_long = omega arith; nodes_long = omega arith; flags_long = omega arith }) c.in_ok-read_text.ensures).pack
+pack_length-size-requires c = (text_kept _ _ _ c.in_ok-read_text.ensures).pack
 
 pub write_pack-requires : goal.write_pack-requires
 write_pack-requires c =
-    may_write _ _ (text_kept _ _ _ (record { arities_long = omega arith; starts_long = omega arith; nodes_long = omega arith; flags_long = omega arith }) c.in_ok-read_text.ensures) c.args.pack.now _ c.pack_length-size.ensures c.if-pack-size.false
+    may_write _ _ (text_kept _ _ _ c.in_ok-read_text.ensures) c.args.pack.now _ c.pack_length-size.ensures c.if-pack-size.false
 
 pub returns-then-pack-size-clause-says : goal.returns-then-pack-size-clause-says
 unfolding Reads
 returns-then-pack-size-clause-says c =
-    (reads_short _ _ (text_kept _ _ _ (record { arities_long = omega arith; starts_long = omega arith; nodes_long = omega arith; flags_long = omega arith }) c.in_ok-read_text.ensures) c.args.pack.now _ c.pack_length-size.ensures c.if-pack-size.true).0
+    (reads_short _ _ (text_kept _ _ _ c.in_ok-read_text.ensures) c.args.pack.now _ c.pack_length-size.ensures c.if-pack-size.true).0
 
 pub returns-then-pack-size-clause-leaves : goal.returns-then-pack-size-clause-leaves
 unfolding Reads
 returns-then-pack-size-clause-leaves c =
-    (reads_short _ _ (text_kept _ _ _ (record { arities_long = omega arith; starts_long = omega arith; nodes_long = omega arith; flags_long = omega arith }) c.in_ok-read_text.ensures) c.args.pack.now _ c.pack_length-size.ensures c.if-pack-size.true).1
+    (reads_short _ _ (text_kept _ _ _ c.in_ok-read_text.ensures) c.args.pack.now _ c.pack_length-size.ensures c.if-pack-size.true).1
 
 pub returns-clause-says : goal.returns-clause-says
 unfolding Reads
 returns-clause-says c =
-    (reads_all _ _ (text_kept _ _ _ (record { arities_long = omega arith; starts_long = omega arith; nodes_long = omega arith; flags_long = omega arith }) c.in_ok-read_text.ensures) c.args.pack.now _ c.pack_length-size.ensures c.if-pack-size.false _ c.write_pack.ensures).0
+    (reads_all _ _ (text_kept _ _ _ c.in_ok-read_text.ensures) c.args.pack.now _ c.pack_length-size.ensures c.if-pack-size.false _ c.write_pack.ensures).0
 
 pub returns-clause-leaves : goal.returns-clause-leaves
 unfolding Reads
 returns-clause-leaves c =
-    (reads_all _ _ (text_kept _ _ _ (record { arities_long = omega arith; starts_long = omega arith; nodes_long = omega arith; flags_long = omega arith }) c.in_ok-read_text.ensures) c.args.pack.now _ c.pack_length-size.ensures c.if-pack-size.false _ c.write_pack.ensures).1
+    (reads_all _ _ (text_kept _ _ _ c.in_ok-read_text.ensures) c.args.pack.now _ c.pack_length-size.ensures c.if-pack-size.false _ c.write_pack.ensures).1

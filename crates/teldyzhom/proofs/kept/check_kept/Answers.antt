@@ -19,7 +19,7 @@ judge-requires c =
 pub returns-in-Err : goal.returns-in-Err
 returns-in-Err c = λ a.
     let found = certificate_found _ _ (c.in_ok-components.ensures a.system a.stored) in
-    judge_stops a _ found _ (c.in-Err.ensures (judgeable a _ found)).numbered
+    judge_stops a _ found _ _ (c.in-Err.ensures (judgeable a _ found)).numbered
 
 pub returns-in-Ok : goal.returns-in-Ok
 returns-in-Ok c = λ a.
