@@ -63,10 +63,5 @@ pub fn all_at_least(xs: &[u64; SUMS], ys: &[u64; SUMS]) -> bool
     requires { (length xs.now ≡ 17) × (length ys.now ≡ 17) }
     ensures { result ≡ each_at_least xs.now ys.now }
 {
-    for v in 0..SUMS {
-        if xs[v] < ys[v] {
-            return false;
-        }
-    }
-    true
+    xs.iter().zip(ys).all(|(x, y)| x >= y)
 }
