@@ -77,12 +77,12 @@ pub fn same_weights(certificate: &[u8], before: usize, from: usize) -> Option<us
         let y = records::word_at(certificate, 8 * at);
         // Equality before the kind, for one load of each: DECISIONS 79.
         if x != y {
-            if records::fields(x).kind == b'W' || records::fields(y).kind == b'W' {
+            if Record::from(x).kind == b'W' || Record::from(y).kind == b'W' {
                 return None;
             }
             return Some(at);
         }
-        if records::fields(x).kind != b'W' {
+        if Record::from(x).kind != b'W' {
             return Some(at);
         }
         i += 1;

@@ -63,7 +63,7 @@ fn enter_all(certificate: &[u8], entries: &mut [Entry]) -> usize
     let mut number = 0u16;
     let mut count = 0;
     for i in 0..n {
-        let r = records::fields(records::word_at(certificate, 8 * i));
+        let r = Record::from(records::word_at(certificate, 8 * i));
         number = numbered(r, number);
         if r.kind == b'P' {
             enter(entries, count, entry_of(r, number));

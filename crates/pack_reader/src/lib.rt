@@ -20,20 +20,6 @@ pub const MOST_NODES: usize = 32;
 // Where each side's nodes start, and where the last one's end.
 pub const STARTS_ROOM: usize = 2 * MOST_RULES + 1;
 
-// How many symbols and rules a pack has.
-#[derive(Clone, Copy)]
-pub struct Counts {
-    pub symbols: usize,
-    pub rules: usize,
-}
-
-// A pack's counts, or its refusal.
-#[derive(Clone, Copy)]
-pub enum PackRead {
-    Read(Counts),
-    Refused(Refusal),
-}
-
 // A pack as it is kept: its symbols' arities, where each side's nodes start, the nodes, and a flag for each defined symbol.
 #[derive(Clone, Copy)]
 pub struct Pack {

@@ -2,8 +2,6 @@
 use Rattle.std.specs.Prelude.{ℕ, Result, Ok, Err}
 use Rattle.records.specs.declared.Refusal.{Refusal}
 use Rattle.records.specs.declared.Refusal.TheVariants.{CutFile, StrayRecord, OutOfRange, BrokenSide, BareLeft, LooseVariable, NoSuchPair, PairCount, BackArc, SelfArc, Heavy, RuleRises, PairStays, ShortList, BadText, TextLimits, NoneLeaves, LostArgument, RuleStays, Full, WrongContinuation, EndsDiffer, SideSpent, NoSuchRule}
-use Rattle.records.specs.declared.Answer.{Answer}
-use Rattle.records.specs.declared.Answer.TheVariants.{Passed, Refused}
 use Rattle.records.specs.Outcomes.{Outcome, refused, passed}
 
 abbrev pub number_of : Refusal → ℕ
@@ -31,10 +29,6 @@ number_of WrongContinuation = 21
 number_of EndsDiffer = 22
 number_of SideSpent = 23
 number_of NoSuchRule = 24
-
-abbrev pub answer_outcome : Answer → Outcome ℕ
-answer_outcome (Passed n) = passed n
-answer_outcome (Refused x) = refused (number_of x)
 
 -- what the code answers: a value, or a refusal by its number
 abbrev pub outcome_of : {A : Type 0} → Result A Refusal → Outcome A

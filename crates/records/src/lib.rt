@@ -70,13 +70,6 @@ pub enum Refusal {
     NoSuchRule,
 }
 
-// A number to go on with, or a refusal.
-#[derive(Clone, Copy)]
-pub enum Answer {
-    Passed(usize),
-    Refused(Refusal),
-}
-
 // The refusal's number in document 01's table.
 impl From<Refusal> for u32 {
     ghost from_gives = { λ x n. n ≡ number_of x };
@@ -111,15 +104,17 @@ pub fn word_at(s: &[u8], i: usize) -> u64
 }
 
 // The fields of a record that was put together as a number.
-pub fn fields(word: u64) -> Record
-    ensures { result ≡ fields word }
-{
-    Record {
-        kind: (word % BYTE_1) as u8,
-        one: (word / BYTE_1 % BYTE_1) as u8,
-        a: (word / BYTE_2 % BYTE_2) as u16,
-        b: (word / BYTE_4 % BYTE_2) as u16,
-        c: (word / BYTE_6 % BYTE_2) as u16,
+impl From<u64> for Record {
+    ghost from_gives = { λ word r. r ≡ fields word };
+
+    fn from(word: u64) -> Record {
+        Record {
+            kind: (word % BYTE_1) as u8,
+            one: (word / BYTE_1 % BYTE_1) as u8,
+            a: (word / BYTE_2 % BYTE_2) as u16,
+            b: (word / BYTE_4 % BYTE_2) as u16,
+            c: (word / BYTE_6 % BYTE_2) as u16,
+        }
     }
 }
 
@@ -128,7 +123,7 @@ pub fn record_at(s: &[u8], i: usize) -> Record
     requires { i + 8 ≤ length s.now }
     ensures { result ≡ record_at s.now i }
 {
-    fields(word_at(s, i))
+    Record::from(word_at(s, i))
 }
 
 // Writes a record at byte `at`.
@@ -136,10 +131,15 @@ pub fn write_record(list: &mut [u8], at: usize, r: Record)
     requires { at + 8 ≤ length list.old }
     ensures { list.new ≡ take at list.old ++ (record_bytes r ++ drop (at + 8) list.old) }
 {
-    let [a, a_high] = r.a.to_le_bytes();
-    let [b, b_high] = r.b.to_le_bytes();
-    let [c, c_high] = r.c.to_le_bytes();
-    list[at..at + 8].copy_from_slice(&[r.kind, r.one, a, a_high, b, b_high, c, c_high]);
+    // Byte by byte: a slice of eight is copied by a call, and a listing took a sixth longer.
+    list[at] = r.kind;
+    list[at + 1] = r.one;
+    list[at + 2] = (r.a % 256) as u8;
+    list[at + 3] = (r.a / 256 % 256) as u8;
+    list[at + 4] = (r.b % 256) as u8;
+    list[at + 5] = (r.b / 256 % 256) as u8;
+    list[at + 6] = (r.c % 256) as u8;
+    list[at + 7] = (r.c / 256 % 256) as u8;
 }
 
 // The record that begins at byte i, if the table lets its kind stand there. A reader of the file gives it.

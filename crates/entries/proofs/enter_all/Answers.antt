@@ -31,7 +31,7 @@ loop-i-preserved c =
     let bs = c.args.certificate.now in
     let t = turn bs _ _ _ _ c.loop-i.invariant in
     let more : t.i < length bs / 8 = c.loop-i-test.true in
-    let is_r : c.fields-r.result ≡ record_at bs (8 * t.i) = c.fields-r.ensures ∙ c.word_at.ensures.record_is in
+    let is_r : c.from-r.result ≡ record_at bs (8 * t.i) = c.from-r.ensures ∙ c.word_at.ensures.record_is in
     let is_m = c.numbered-number.ensures in
     elim c.if-r-eq80.branch [
       | then-r-eq80 w ↦ (

@@ -62,15 +62,15 @@ returns-then-x-y c =
     let l = c.loop-at in
     record {
       agree = λ vs ws a b.
-          both_end (l.invariant.1 vs ws a b) (omega (arith, l.invariant.0)) c.loop-at-test.true (c.fields.ensures ∙ c.word_at-x.ensures.record_is)
-          (c.fields-else-fields-eq87.ensures ∙ c.word_at-y.ensures.record_is) c.if-fields-eq87.false c.if-fields-eq87-2.false;
+          both_end (l.invariant.1 vs ws a b) (omega (arith, l.invariant.0)) c.loop-at-test.true (c.from.ensures ∙ c.word_at-x.ensures.record_is)
+          (c.from-else-from-eq87.ensures ∙ c.word_at-y.ensures.record_is) c.if-from-eq87.false c.if-from-eq87-2.false;
     }
 
 pub returns-then-fields-ne87 : goal.returns-then-fields-ne87
 returns-then-fields-ne87 c =
-    let r : Record = c.fields-in-loop-at.result in
-    let here : r ≡ record_at c.args.certificate.now (8 * c.loop-at.i) = c.fields-in-loop-at.ensures ∙ c.word_at-x.ensures.record_is in
-    let there : r ≡ record_at c.args.certificate.now (8 * c.loop-at.at) = c.fields-in-loop-at.ensures ∙ ap fields c.if-x-y.false ∙ c.word_at-y.ensures.record_is in
+    let r : Record = c.from-in-loop-at.result in
+    let here : r ≡ record_at c.args.certificate.now (8 * c.loop-at.i) = c.from-in-loop-at.ensures ∙ c.word_at-x.ensures.record_is in
+    let there : r ≡ record_at c.args.certificate.now (8 * c.loop-at.at) = c.from-in-loop-at.ensures ∙ ap fields c.if-x-y.false ∙ c.word_at-y.ensures.record_is in
     let l = c.loop-at in
     record {
       agree = λ vs ws a b.
@@ -80,9 +80,9 @@ returns-then-fields-ne87 c =
 
 pub loop-at-preserved : goal.loop-at-preserved
 loop-at-preserved c =
-    let r : Record = c.fields-in-loop-at.result in
-    let here : r ≡ record_at c.args.certificate.now (8 * c.loop-at.i) = c.fields-in-loop-at.ensures ∙ c.word_at-x.ensures.record_is in
-    let there : r ≡ record_at c.args.certificate.now (8 * c.loop-at.at) = c.fields-in-loop-at.ensures ∙ ap fields c.if-x-y.false ∙ c.word_at-y.ensures.record_is in
+    let r : Record = c.from-in-loop-at.result in
+    let here : r ≡ record_at c.args.certificate.now (8 * c.loop-at.i) = c.from-in-loop-at.ensures ∙ c.word_at-x.ensures.record_is in
+    let there : r ≡ record_at c.args.certificate.now (8 * c.loop-at.at) = c.from-in-loop-at.ensures ∙ ap fields c.if-x-y.false ∙ c.word_at-y.ensures.record_is in
     let l = c.loop-at in (
       omega (arith, l.invariant.0),
       λ vs ws a b.

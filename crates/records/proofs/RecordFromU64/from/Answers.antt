@@ -1,7 +1,7 @@
--- `records::fields` meets its contract, field by field.
+-- `Record::from` meets its contract, field by field.
 use mathlib.Core.Path.{refl}
 use Rattle.records.specs.Records.{fields}
-use Rattle.records.proofs.fields.Goals as goal
+use Rattle.records.proofs.RecordFromU64.from.Goals as goal
 
 pub returns : goal.returns
 unfolding fields
