@@ -31,57 +31,47 @@ impl Console {
         self.rt.stderr().is_terminal()
     }
 
-    // Before a write.
-    fn open(&self) -> io::Result<()> {
+    // Writes, unless nobody reads any more, and notes where a write tells so.
+    fn noting<W: FnOnce() -> io::Result<()>>(&self, write: W) -> io::Result<()>
+        requires { W.IsAlwaysCallable write }
+    {
         if self.is_unread() {
             return Err(Error::from(ErrorKind::BrokenPipe));
         }
-        Ok(())
-    }
-
-    // After a write.
-    fn note(&self, written: io::Result<()>) -> io::Result<()> {
-        if let Err(error) = written
-            && error.kind() == ErrorKind::BrokenPipe
-        {
-            self.unread.set(true);
-        }
-        written
+        write().inspect_err(|error| {
+            if error.kind() == ErrorKind::BrokenPipe {
+                self.unread.set(true);
+            }
+        })
     }
 
     // Bytes that need not be text, to standard error.
     pub fn say(&self, bytes: &[u8]) -> io::Result<()> {
-        self.open()?;
-        self.note(self.rt.stderr().write_all(bytes))
+        self.noting(|| self.rt.stderr().write_all(bytes))
     }
 }
 
 // Standard output.
 impl Print for Console {
     fn print<D: Display + Drop>(&self, value: D) -> io::Result<()> {
-        self.open()?;
-        self.note(self.rt.print(value))
+        self.noting(|| self.rt.print(value))
     }
 
     fn println<D: Display + Drop>(&self, value: D) -> io::Result<()> {
-        self.open()?;
-        self.note(self.rt.println(value))
+        self.noting(|| self.rt.println(value))
     }
 
     fn write_all(&self, bytes: &[u8]) -> io::Result<()> {
-        self.open()?;
-        self.note(self.rt.write_all(bytes))
+        self.noting(|| self.rt.write_all(bytes))
     }
 }
 
 impl Eprint for Console {
     fn eprint<D: Display + Drop>(&self, value: D) -> io::Result<()> {
-        self.open()?;
-        self.note(self.rt.eprint(value))
+        self.noting(|| self.rt.eprint(value))
     }
 
     fn eprintln<D: Display + Drop>(&self, value: D) -> io::Result<()> {
-        self.open()?;
-        self.note(self.rt.eprintln(value))
+        self.noting(|| self.rt.eprintln(value))
     }
 }
