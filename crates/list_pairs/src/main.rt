@@ -20,7 +20,7 @@ fn list(console: &Console) {
         Answer::Refused(x) => printing::refused(console, x),
         Answer::Passed(n) => printing::pairs(console, &list, n),
     };
-    printing::finished(console, written);
+    let _ = printing::finished(console, written);
 }
 
 fn main(rt: HostRuntime) -> ExitCode {

@@ -21,21 +21,17 @@ const TEXT_ROOM: usize = records::MOST_TEXT_BYTES + 1;
 // A list of 2,048 pairs, the most there can be.
 const LIST_ROOM: usize = 8 * records::MOST_PAIRS;
 
-// What the run comes to once its answer was written, or not.
-fn after(console: &Console, written: io::Result<()>, answer: Ended) -> Ended {
-    if printing::finished(console, written) {
-        return answer;
-    }
-    Ended::Unjudged
+// What the run comes to once its answer was written.
+fn after(console: &Console, written: io::Result<()>, answer: Ended) -> io::Result<Ended> {
+    printing::finished(console, written)?;
+    Ok(answer)
 }
 
 // The answer's line, then the words for it.
-fn refused(console: &Console, x: Refusal) -> Ended {
-    if !printing::finished(console, printing::refused(console, x)) {
-        return Ended::Unjudged;
-    }
+fn refused(console: &Console, x: Refusal) -> io::Result<Ended> {
+    printing::finished(console, printing::refused(console, x))?;
     let _ = printing::words::tell(console, x);
-    Ended::Against
+    Ok(Ended::Against)
 }
 
 fn usage(console: &Console) -> Ended {
@@ -45,14 +41,14 @@ fn usage(console: &Console) -> Ended {
     Ended::Unjudged
 }
 
-fn tell_checked(console: &Console, answer: Checked) -> Ended {
+fn tell_checked(console: &Console, answer: Checked) -> io::Result<Ended> {
     match answer {
         Checked::Accepted => after(console, println!(console; "accepted"), Ended::Good),
         Checked::Refused(x) => refused(console, x),
     }
 }
 
-fn tell_arc(console: &Console, answer: ArcAnswer) -> Ended {
+fn tell_arc(console: &Console, answer: ArcAnswer) -> io::Result<Ended> {
     match answer {
         ArcAnswer::Yes => after(console, println!(console; "yes"), Ended::Good),
         ArcAnswer::No => after(console, println!(console; "no"), Ended::Against),
@@ -66,17 +62,17 @@ fn check(console: &Console, pack_at: usize, certificate_at: usize) -> io::Result
     let n = files::read_argument(console, pack_at, &mut pack)?;
     let m = files::read_argument(console, certificate_at, &mut certificate)?;
     let answer = teldyzhom::check_certificate(&pack[..n], &certificate[..m]);
-    Ok(tell_checked(console, answer))
+    tell_checked(console, answer)
 }
 
 fn pairs_of(console: &Console, pack_at: usize) -> io::Result<Ended> {
     let mut pack = [0u8; PACK_ROOM];
     let mut list = [0u8; LIST_ROOM];
     let n = files::read_argument(console, pack_at, &mut pack)?;
-    Ok(match teldyzhom::list_pairs(&pack[..n], &mut list) {
+    match teldyzhom::list_pairs(&pack[..n], &mut list) {
         Answer::Refused(x) => refused(console, x),
         Answer::Passed(k) => after(console, printing::pairs(console, &list, k), Ended::Good),
-    })
+    }
 }
 
 fn arc(console: &Console, at: usize) -> io::Result<Ended>
@@ -90,14 +86,14 @@ fn arc(console: &Console, at: usize) -> io::Result<Ended>
     let mut pack = [0u8; PACK_ROOM];
     let n = files::read_argument(console, at, &mut pack)?;
     let answer = teldyzhom::arc_runs(&pack[..n], rule, place, other_rule, other_place);
-    Ok(tell_arc(console, answer))
+    tell_arc(console, answer)
 }
 
 // Writes the pack, and then its length as the answer; the pack stays where the answer cannot be told.
 fn give_pack(console: &Console, pack_at: usize, pack: &[u8]) -> io::Result<Ended> {
     files::write_argument(console, pack_at, pack)?;
     let written = printing::number(console, pack.len() as u64);
-    Ok(after(console, written, Ended::Good))
+    after(console, written, Ended::Good)
 }
 
 fn read(console: &Console, text_at: usize, pack_at: usize) -> io::Result<Ended> {
@@ -105,7 +101,7 @@ fn read(console: &Console, text_at: usize, pack_at: usize) -> io::Result<Ended> 
     let mut pack = [0u8; records::MOST_PACK_BYTES];
     let n = files::read_argument(console, text_at, &mut text)?;
     match teldyzhom::read_text(&text[..n], &mut pack) {
-        Answer::Refused(x) => Ok(refused(console, x)),
+        Answer::Refused(x) => refused(console, x),
         Answer::Passed(k) => {
             // All k of them: the answer is never more than the buffer holds.
             give_pack(console, pack_at, &pack[..k.min(pack.len())])
@@ -152,8 +148,8 @@ fn check_all(console: &Console, first: usize, end: usize) -> io::Result<Ended>
     Ok(runs::check_named(console, first, end))
 }
 
-// Answers the question whose verb is argument `at`, of `given` words from the verb on. It fails where a file could not be read or written,
-// which was told by then.
+// Answers the question whose verb is argument `at`, of `given` words from the verb on. It fails where a file could not be read, or not
+// all be written, which was told by then.
 fn answer(console: &Console, at: usize, given: usize) -> io::Result<Ended>
     requires at_bound { at ≤ 2 }
     requires given_bound { at + given ≤ greatest }

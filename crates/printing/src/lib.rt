@@ -3,16 +3,18 @@
 pub mod lines;
 pub mod words;
 
+ghost use Rattle.std.specs.Prelude.{◌≡◌};
+
 use names::Console;
 use records::{Record, Refusal};
 use std::io;
 use std::io::{Error, ErrorKind};
 
 // Says so where not all could be written.
-pub fn finished(console: &Console, written: io::Result<()>) -> bool {
-    written
-        .inspect_err(|error| names::fail(console, b"standard output", *error))
-        .is_ok()
+pub fn finished(console: &Console, written: io::Result<()>) -> io::Result<()>
+    ensures { result ≡ written }
+{
+    written.inspect_err(|error| names::fail(console, b"standard output", *error))
 }
 
 // A number's line.

@@ -128,19 +128,19 @@ fn conclude(console: &Console, t: Tally) -> Ended
 {
     printing::lines::settle(console);
     let written = printing::lines::counts(console, t.accepted, t.refused, t.unread);
-    if !printing::finished(console, written) {
-        return Ended::Unjudged;
+    match printing::finished(console, written) {
+        Ok(()) => worst(t),
+        Err(_) => Ended::Unjudged,
     }
-    worst(t)
 }
 
 fn if_written(console: &Console, written: io::Result<()>, answer: Told) -> Told
     ensures { ToldAs answer result }
 {
-    if printing::finished(console, written) {
-        return answer;
+    match printing::finished(console, written) {
+        Ok(()) => answer,
+        Err(_) => Told::Lost,
     }
-    Told::Lost
 }
 
 fn tell_checked(console: &Console, name: &[u8], answer: Checked) -> Told
