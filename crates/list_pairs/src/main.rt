@@ -1,7 +1,6 @@
 #![tactic(auto)]
 // Reads a pack from standard input and prints one line a pair, rule and place; a refused pack prints `refused` and the number.
 use names::{Console, UNREAD};
-use records::Answer;
 use std::process::ExitCode;
 
 // One byte more than the limit is enough to see that a pack is too long.
@@ -17,8 +16,8 @@ fn list(console: &Console) {
         return;
     };
     let written = match teldyzhom::list_pairs(&pack[..n], &mut list) {
-        Answer::Refused(x) => printing::refused(console, x),
-        Answer::Passed(n) => printing::pairs(console, &list, n),
+        Ok(n) => printing::pairs(console, &list, n),
+        Err(x) => printing::refused(console, x),
     };
     let _ = printing::finished(console, written);
 }

@@ -8,12 +8,10 @@ ghost use Rattle.loader.specs.Status.{status_of};
 ghost use Rattle.runs.specs.Runs.{greatest};
 
 use names::{Console, UNREAD};
-use pairs::ArcAnswer;
-use records::{Answer, Refusal};
+use records::Refusal;
 use runs::{CERTIFICATE_ROOM, Ended, PACK_ROOM};
 use std::io;
 use std::process::ExitCode;
-use teldyzhom::Checked;
 
 // One byte more than a text may have, as for packs and certificates.
 const TEXT_ROOM: usize = records::MOST_TEXT_BYTES + 1;
@@ -41,18 +39,18 @@ fn usage(console: &Console) -> Ended {
     Ended::Unjudged
 }
 
-fn tell_checked(console: &Console, answer: Checked) -> io::Result<Ended> {
+fn tell_checked(console: &Console, answer: Result<(), Refusal>) -> io::Result<Ended> {
     match answer {
-        Checked::Accepted => after(console, println!(console; "accepted"), Ended::Good),
-        Checked::Refused(x) => refused(console, x),
+        Ok(()) => after(console, println!(console; "accepted"), Ended::Good),
+        Err(x) => refused(console, x),
     }
 }
 
-fn tell_arc(console: &Console, answer: ArcAnswer) -> io::Result<Ended> {
+fn tell_arc(console: &Console, answer: Result<bool, Refusal>) -> io::Result<Ended> {
     match answer {
-        ArcAnswer::Yes => after(console, println!(console; "yes"), Ended::Good),
-        ArcAnswer::No => after(console, println!(console; "no"), Ended::Against),
-        ArcAnswer::Refused(x) => refused(console, x),
+        Ok(true) => after(console, println!(console; "yes"), Ended::Good),
+        Ok(false) => after(console, println!(console; "no"), Ended::Against),
+        Err(x) => refused(console, x),
     }
 }
 
@@ -70,8 +68,8 @@ fn pairs_of(console: &Console, pack_at: usize) -> io::Result<Ended> {
     let mut list = [0u8; LIST_ROOM];
     let n = files::read_argument(console, pack_at, &mut pack)?;
     match teldyzhom::list_pairs(&pack[..n], &mut list) {
-        Answer::Refused(x) => refused(console, x),
-        Answer::Passed(k) => after(console, printing::pairs(console, &list, k), Ended::Good),
+        Ok(k) => after(console, printing::pairs(console, &list, k), Ended::Good),
+        Err(x) => refused(console, x),
     }
 }
 
@@ -101,11 +99,9 @@ fn read(console: &Console, text_at: usize, pack_at: usize) -> io::Result<Ended> 
     let mut pack = [0u8; records::MOST_PACK_BYTES];
     let n = files::read_argument(console, text_at, &mut text)?;
     match teldyzhom::read_text(&text[..n], &mut pack) {
-        Answer::Refused(x) => refused(console, x),
-        Answer::Passed(k) => {
-            // All k of them: the answer is never more than the buffer holds.
-            give_pack(console, pack_at, &pack[..k.min(pack.len())])
-        }
+        // All k of them: the answer is never more than the buffer holds.
+        Ok(k) => give_pack(console, pack_at, &pack[..k.min(pack.len())]),
+        Err(x) => refused(console, x),
     }
 }
 

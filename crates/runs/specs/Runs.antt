@@ -1,9 +1,8 @@
 -- What a run over several pairs of files comes to: the counts, and the worst of the answers.
-use Rattle.std.specs.Prelude.{◌≡◌, Bool, true, false, ◌⊎◌, Option, Some, None, ℕ, ◌+◌, ◌<◌}
+use Rattle.std.specs.Prelude.{◌≡◌, Bool, true, false, ◌⊎◌, Option, Some, None, Result, Ok, Err, ℕ, ◌+◌, ◌<◌}
 use Rattle.lists.specs.declared.Taken.{Taken}
 use Rattle.lists.specs.declared.Taken.TheVariants.{Line, Unended, Part, End}
-use Rattle.teldyzhom.specs.declared.Checked.{Checked}
-use Rattle.teldyzhom.specs.declared.Checked.TheVariants.{Accepted as CheckAccepted, Refused as CheckRefused}
+use Rattle.records.specs.declared.Refusal.{Refusal}
 use Rattle.runs.specs.declared.Tally.{Tally}
 use Rattle.runs.specs.declared.Told.{Told}
 use Rattle.runs.specs.declared.Told.TheVariants.{Accepted, Refused, Unread, Nothing, Lost}
@@ -11,9 +10,9 @@ use Rattle.runs.specs.declared.Ended.{Ended}
 use Rattle.runs.specs.declared.Ended.TheVariants.{Good, Against, Unjudged}
 
 -- what is told of a pair that was judged
-abbrev pub told_of : Checked → Told
-told_of CheckAccepted = Accepted
-told_of (CheckRefused x) = Refused
+abbrev pub told_of : Result (Unit {0}) Refusal → Told
+told_of (Ok _) = Accepted
+told_of (Err x) = Refused
 
 -- a pair was told so, or its line could not be written
 abbrev pub ToldAs : (due : Told) → Told → Type 0

@@ -7,9 +7,9 @@ ghost use Rattle.runs.specs.Runs.{greatest, told_of, total, AllCounted, Answered
 
 use lists::Taken;
 use names::{Console, PATH_MAX};
+use records::Refusal;
 use std::io;
 use std::io::Read;
-use teldyzhom::Checked;
 
 // One byte more than the limit of a file is enough to see that it is too long.
 pub const PACK_ROOM: usize = records::MOST_PACK_BYTES + 1;
@@ -143,17 +143,17 @@ fn if_written(console: &Console, written: io::Result<()>, answer: Told) -> Told
     }
 }
 
-fn tell_checked(console: &Console, name: &[u8], answer: Checked) -> Told
+fn tell_checked(console: &Console, name: &[u8], answer: Result<(), Refusal>) -> Told
     ensures says { ToldAs (told_of answer) result }
     ensures answers { Answered result }
 {
     match answer {
-        Checked::Accepted => if_written(
+        Ok(()) => if_written(
             console,
             printing::lines::accepted(console, name),
             Told::Accepted,
         ),
-        Checked::Refused(x) => if_written(
+        Err(x) => if_written(
             console,
             printing::lines::refused(console, name, x),
             Told::Refused,
