@@ -22,13 +22,10 @@ fn count_in(pack: &Pack, from: usize, to: usize) -> usize
     requires { (from ≤ to) × (to ≤ length pack.now.nodes) }
     ensures { result ≡ length (places pack.now.defined 0 (part pack.now.nodes from to)) }
 {
-    let mut n = 0;
-    for i in from..to {
-        if is_defined(pack, pack.nodes[i]) {
-            n += 1;
-        }
-    }
-    n
+    pack.nodes[from..to]
+        .iter()
+        .filter(|c| is_defined(pack, **c))
+        .count()
 }
 
 // How many pairs there are.

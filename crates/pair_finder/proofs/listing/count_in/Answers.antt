@@ -1,30 +1,29 @@
--- `pair_finder::listing::count_in` meets its contract. The loop's invariant: what is counted and the places left are as many as the
--- places of the whole side.
-use mathlib.Core.Path.{sym, ap, ◌∙◌}
-use mathlib.Core.Logic.{⊎_elim}
-use native.Mathlib.Nat.{zero-add}
-use native.Mathlib.Omega.{arith}
-use lib.ListN.{length}
-use Rattle.pair_finder.proofs.DefinedPlaces.{none_left, defined_left, undefined_left, all_left}
+-- `pair_finder::listing::count_in` meets its contract: there are as many places as nodes that the filter keeps.
+use mathlib.Core.Path.{◌≡◌, refl, ap, ◌∙◌}
+use mathlib.Core.List.{List, [], ◌∷◌}
+use Prim.Native.Nat.{ℕ, suc, ◌-◌}
+use lib.ListN.{length, take, drop}
+use borrow.Author.Rules.{rules}
+use borrow.Author.Tests.{tests}
+use Rattle.std.specs.List.{filter}
+use Rattle.std.proofs.lemmas.Iterator.{YieldsList-from_slice}
+use Rattle.std.proofs.lemmas.Iterator.Consumers.{YieldsList-from_filter, count_from_yields_List}
+use Rattle.rewriting.proofs.Basics.{by_test}
+use Rattle.terms.specs.Kept.{part}
+use Rattle.pair_finder.specs.Walking.{is_defined, places}
 use Rattle.pair_finder.proofs.listing.count_in.Goals as goal
 
-pub loop-i-init : goal.loop-i-init
-loop-i-init c = (omega arith, omega arith, omega arith, zero-add _ ∙ ap length (all_left _ _ _ _))
-
-pub loop-i-preserved : goal.loop-i-preserved
-loop-i-preserved c =
-    let l = c.loop-i in
-    let flags = c.args.pack.now.defined in
-    let nodes = c.args.pack.now.nodes in
-    ⊎_elim
-    (λ w.
-    let e = defined_left flags nodes _ l.i _ l.invariant.0 c.loop-i-test.true c.requires.1 (sym c.is_defined.ensures ∙ w.if-is_defined.true) in
-    (omega arith, omega arith, omega arith, omega (arith, ap length e)))
-    (λ w.
-    let e = undefined_left flags nodes _ l.i _ l.invariant.0 c.loop-i-test.true c.requires.1 (sym c.is_defined.ensures ∙ w.if-is_defined.false) in
-    (omega arith, omega arith, omega arith, omega (arith, ap length e)))
-    c.if-is_defined.branch-raw
+as_many : (ms : List ℕ) (k : ℕ) (cs : List ℕ) → length (filter (is_defined ms) cs) ≡ length (places ms k cs)
+unfolding places
+as_many ms k [] = refl
+as_many ms k (c ∷ cs) =
+    by_test (is_defined ms c) (λ e. rw e (ap suc (as_many ms (suc k) cs))) (λ e. rw e (as_many ms (suc k) cs))
 
 pub returns : goal.returns
+unfolding part
 returns c =
-    omega (arith, ap length (none_left c.args.pack.now.defined c.args.pack.now.nodes c.args.from c.loop-i.i _ c.loop-i-test.false))
+    let pack = c.args.pack.now in
+    let side = take (c.args.to - c.args.from) (drop c.args.from pack.nodes) in
+    count_from_yields_List c.filter.result _ c.count.ensures.ran
+    (YieldsList-from_filter _ (is_defined pack.defined) (YieldsList-from_slice side cc) c.filter.ensures.closure (λ x r q k. search (rules, tests)))
+    ∙ as_many pack.defined 0 side
