@@ -68,10 +68,10 @@ fn reached_from(
     let from = 65536 * u32::from(pack.nodes[right]);
     for s in first..pack.rules {
         // One test for both: the rule has this root, and a component below `own`.
-        if keys[s].wrapping_sub(from) < u32::from(own) {
-            if pair_finder::arcs::reaches_to(pack, right, end, s) {
-                return Some(s);
-            }
+        if keys[s].wrapping_sub(from) < u32::from(own)
+            && pair_finder::arcs::reaches_to(pack, right, end, s)
+        {
+            return Some(s);
         }
     }
     None
@@ -122,8 +122,9 @@ pub fn judge(
     }
     let mut lows = [NO_COMPONENT; MOST_RULES];
     let mut seen = [false; MOST_PAIRS];
-    for i in 0..n {
-        if note(store.entries[i], &mut lows, &mut seen) {
+    let entries = &store.entries[..n];
+    for e in entries {
+        if note(*e, &mut lows, &mut seen) {
             return Err(Refusal::PairCount);
         }
     }
@@ -135,9 +136,8 @@ pub fn judge(
     keep_keys(pack, &lows, &mut keys);
     let mut roots = [NO_COMPONENT; MOST_SYMBOLS];
     lowest_of_roots(pack, &lows, &mut roots);
-    for i in 0..n {
-        let e = store.entries[i];
-        if back_from_entry(e, pack, &keys, &roots) {
+    for e in entries {
+        if back_from_entry(*e, pack, &keys, &roots) {
             return Err(Refusal::BackArc);
         }
     }

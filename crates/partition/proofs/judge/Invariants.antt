@@ -11,11 +11,11 @@ use Rattle.partition.proofs.judge.Given as goal
 abbrev pub of_certificate : List ℕ → List Entry
 of_certificate ds = entries_of 0 (all_records ds)
 
-abbrev pub invariant-loop-i : goal.invariant-loop-i
-invariant-loop-i l = (l.i ≤ l.n) × Noted (of_certificate l.certificate) l.lows l.seen l.i
+abbrev pub invariant-loop-e : goal.invariant-loop-e
+invariant-loop-e l = (l.e-index ≤ l.n) × Noted (of_certificate l.certificate) l.lows l.seen l.e-index
 
-abbrev pub invariant-loop-i-2 : goal.invariant-loop-i-2
-invariant-loop-i-2 l =
-    (l.i ≤ l.n)
+abbrev pub invariant-loop-e-2 : goal.invariant-loop-e-2
+invariant-loop-e-2 l =
+    (l.e-index ≤ l.n)
     × ((j : Judgeable l.certificate l.components l.pack.rules l.pack.arities l.pack.starts l.pack.nodes l.pack.defined) (lows : List ℕ) → Keyed l.pack.rules l.pack.starts l.pack.nodes lows l.keys l.roots →
-    any_back j.kept.system lows l.pack.rules (drop l.i (of_certificate l.certificate)) ≡ any_back j.kept.system lows l.pack.rules (of_certificate l.certificate))
+    any_back j.kept.system lows l.pack.rules (drop l.e-index (of_certificate l.certificate)) ≡ any_back j.kept.system lows l.pack.rules (of_certificate l.certificate))

@@ -2,7 +2,7 @@
 use Rattle.std.proofs.Common.{◌≡◌, sym, ◌∙◌, arith}
 use Rattle.pair_finder.proofs.Kept.{term_within}
 use Rattle.partition.proofs.Keys.{asked_of, right_term, root_small, none_more, none_reached, is_lower, no_lower}
-use Rattle.partition.proofs.reached_from.Goals.{then-keys-s+else-reaches_to, else-keys-s}
+use Rattle.partition.proofs.reached_from.Goals.{else-keys-s-via-then-keys-s+else-reaches_to, else-keys-s-via-else-keys-s}
 use Rattle.partition.proofs.reached_from.Goals as goal
 
 pub bounds-pack-right : goal.bounds-pack-right
@@ -48,9 +48,9 @@ loop-s-preserved c =
       omega arith,
       λ a none.
           none_more a.asked own l.s (l.invariant.2 a none)
-          (elim c.if-keys-s.branch [
-            | then-keys-s+else-reaches_to w ↦ none_reached a.asked own l.s h (sym (w.reaches_to.ensures (asked_of a.asked l.s h)) ∙ w.if-reaches_to.false)
-            | else-keys-s w ↦ no_lower a.asked own l.s h (omega (arith, c.type_inv.keys l.s)) (rw (c.from-from.ensures, c.from.ensures) at w.if-keys-s.false)
+          (elim c.else-keys-s.branch [
+            | else-keys-s-via-then-keys-s+else-reaches_to w ↦ none_reached a.asked own l.s h (sym (w.reaches_to.ensures (asked_of a.asked l.s h)) ∙ w.if-reaches_to.false)
+            | else-keys-s-via-else-keys-s w ↦ no_lower a.asked own l.s h (omega (arith, c.type_inv.keys l.s)) (rw (c.from-from.ensures, c.from.ensures) at w.if-keys-s.false)
           ]),
     )
 
