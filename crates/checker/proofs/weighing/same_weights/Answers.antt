@@ -66,16 +66,16 @@ returns-then-x-y c =
           (c.from-else-from-eq87.ensures ∙ c.word_at-y.ensures.record_is) c.if-from-eq87.false c.if-from-eq87-2.false;
     }
 
-pub returns-then-fields-ne87 : goal.returns-then-fields-ne87
-returns-then-fields-ne87 c =
+pub returns-then-from-ne87 : goal.returns-then-from-ne87
+returns-then-from-ne87 c =
     let r : Record = c.from-in-loop-at.result in
     let here : r ≡ record_at c.args.certificate.now (8 * c.loop-at.i) = c.from-in-loop-at.ensures ∙ c.word_at-x.ensures.record_is in
     let there : r ≡ record_at c.args.certificate.now (8 * c.loop-at.at) = c.from-in-loop-at.ensures ∙ ap fields c.if-x-y.false ∙ c.word_at-y.ensures.record_is in
     let l = c.loop-at in
     record {
       agree = λ vs ws a b.
-          both_end (l.invariant.1 vs ws a b) (omega (arith, l.invariant.0)) c.loop-at-test.true here there c.if-fields-ne87.true
-          c.if-fields-ne87.true;
+          both_end (l.invariant.1 vs ws a b) (omega (arith, l.invariant.0)) c.loop-at-test.true here there c.if-from-ne87.true
+          c.if-from-ne87.true;
     }
 
 pub loop-at-preserved : goal.loop-at-preserved
@@ -86,7 +86,7 @@ loop-at-preserved c =
     let l = c.loop-at in (
       omega (arith, l.invariant.0),
       λ vs ws a b.
-          both_go_on (l.invariant.1 vs ws a b) (omega (arith, l.invariant.0)) c.loop-at-test.true here there c.if-fields-ne87.false,
+          both_go_on (l.invariant.1 vs ws a b) (omega (arith, l.invariant.0)) c.loop-at-test.true here there c.if-from-ne87.false,
     )
 
 pub returns-then-x-ne87 : goal.returns-then-x-ne87
