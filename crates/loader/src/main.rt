@@ -32,11 +32,11 @@ fn refused(console: &Console, x: Refusal) -> io::Result<Ended> {
     Ok(Ended::Against)
 }
 
-fn usage(console: &Console) -> Ended {
+fn usage(console: &Console) -> io::Result<Ended> {
     let _ = eprintln!(console;
         "usage: loader check PACK CERTIFICATE [PACK CERTIFICATE ..]\n       loader check --list FILE\n       loader check --list0 FILE\n       loader pairs PACK\n       loader arc PACK RULE PLACE RULE PLACE\n       loader read TEXT PACK"
     );
-    Ended::Unjudged
+    Ok(Ended::Unjudged)
 }
 
 fn tell_checked(console: &Console, answer: Result<(), Refusal>) -> io::Result<Ended> {
@@ -79,7 +79,7 @@ fn arc(console: &Console, at: usize) -> io::Result<Ended>
     let places = [at + 1, at + 2, at + 3, at + 4];
     let numbers = places.map(|i| numbers::argument(console, i));
     let [Some(rule), Some(place), Some(other_rule), Some(other_place)] = numbers else {
-        return Ok(usage(console));
+        return usage(console);
     };
     let mut pack = [0u8; PACK_ROOM];
     let n = files::read_argument(console, at, &mut pack)?;
@@ -111,11 +111,11 @@ fn names_input(console: &Console, first: usize, end: usize) -> bool {
 }
 
 // Checks the pairs of a list. Its name is the one argument after the flag, argument `first`; its lines end in that byte.
-fn check_list(console: &Console, first: usize, end: usize, ends: u8) -> Ended
+fn check_list(console: &Console, first: usize, end: usize, ends: u8) -> io::Result<Ended>
     requires { first + 2 ≤ end }
 {
     if end - first == 2 {
-        return runs::check_list(console, first + 1, ends);
+        return Ok(runs::check_list(console, first + 1, ends));
     }
     usage(console)
 }
@@ -125,21 +125,21 @@ fn check_all(console: &Console, first: usize, end: usize) -> io::Result<Ended>
     requires { first + 2 ≤ end }
 {
     if files::is_word(console, first, b"--list") {
-        return Ok(check_list(console, first, end, lists::LINE_END));
+        return check_list(console, first, end, lists::LINE_END);
     }
     if files::is_word(console, first, b"--list0") {
-        return Ok(check_list(console, first, end, lists::ZERO));
+        return check_list(console, first, end, lists::ZERO);
     }
     if end - first == 2 {
         // Standard input has one file.
         if files::is_input(console, first) && files::is_input(console, first + 1) {
-            return Ok(usage(console));
+            return usage(console);
         }
         return check(console, first, first + 1);
     }
     // An odd one is of no pair, and standard input is no file of a run over several.
     if (end - first) % 2 == 1 || names_input(console, first, end) {
-        return Ok(usage(console));
+        return usage(console);
     }
     Ok(runs::check_named(console, first, end))
 }
@@ -160,7 +160,7 @@ fn answer(console: &Console, at: usize, given: usize) -> io::Result<Ended>
         ),
         2 if files::is_word(console, at, b"pairs") => pairs_of(console, at + 1),
         6 if files::is_word(console, at, b"arc") => arc(console, at + 1),
-        _ => Ok(usage(console)),
+        _ => usage(console),
     }
 }
 
