@@ -20,14 +20,7 @@ pub fn read_text(text: &[u8], pack: &mut Pack) -> Result<(), Refusal>
     }
     let mut table = [0u16; TABLE_ROOM];
     let at = text_grammar::rules_place(text, &mut table)?;
-    let counts = rules::read_rules(
-        text,
-        at,
-        &table,
-        &mut pack.arities,
-        &mut pack.starts,
-        &mut pack.nodes,
-    )?;
+    let counts = rules::read_rules(text, at, &table, pack)?;
     pack.symbols = counts.symbols;
     pack.rules = counts.rules;
     Ok(())

@@ -8,6 +8,7 @@ ghost use Rattle.text_names.specs.Table.{hashes, VariablesKept};
 ghost use Rattle.text_sides.specs.Sides.{kept_uses};
 ghost use Rattle.text_reader.specs.Tables.{name_entry, kept_names, a_use, FindAsked, Sought, VariableAsked, VariableTold, SymbolAsked, SymbolTold, UseAsked, UsesAsked, TablesKept, NumberingGoes, NumberingTold};
 
+use pack_reader::Pack;
 use terms::{FIRST_VARIABLE, MOST_SYMBOLS, MOST_VARIABLES};
 use text_sides::Use;
 
@@ -16,6 +17,13 @@ const PLACES: usize = 65536;
 
 // Document 01's limit on a symbol's arguments.
 const MOST_ARITY: usize = 8;
+
+// The entries of the names so far: the text's symbols, and the rule's variables.
+#[derive(Clone, Copy)]
+pub struct Names {
+    pub symbols: [u64; MOST_SYMBOLS],
+    pub variables: [u64; MOST_VARIABLES],
+}
 
 // How many symbols, variables of the rule and nodes there are so far.
 #[derive(Clone, Copy)]
@@ -104,29 +112,36 @@ fn number_use(
     table: &[u16],
     s: usize,
     count: usize,
-    symbols: &mut [u64],
-    arities: &mut [u8],
-    variables: &mut [u64],
-    nodes: &mut [u8],
+    names: &mut Names,
+    pack: &mut Pack,
     seen: Seen,
 ) -> Option<Seen>
-    requires { UseAsked text.now table.now s count symbols.old arities.old variables.old nodes.old seen }
-    ensures goes { NumberingGoes text.now symbols.new arities.new variables.new nodes.new seen.nodes 1 result }
-    ensures told { (vs : List Name) (x : Numbering) → VariablesKept text.now table.now vs → TablesKept text.now symbols.old arities.old variables.old nodes.old seen x → NumberingTold (use_numbered vs (a_use text.now s count) x) text.now symbols.new arities.new variables.new nodes.new result }
+    requires { UseAsked text.now table.now s count names.old.symbols pack.old.arities names.old.variables pack.old.nodes seen }
+    ensures goes { NumberingGoes text.now names.new.symbols pack.new.arities names.new.variables pack.new.nodes seen.nodes 1 result }
+    ensures starts { pack.new.starts ≡ pack.old.starts }
+    ensures told { (vs : List Name) (x : Numbering) → VariablesKept text.now table.now vs → TablesKept text.now names.old.symbols pack.old.arities names.old.variables pack.old.nodes seen x → NumberingTold (use_numbered vs (a_use text.now s count) x) text.now names.new.symbols pack.new.arities names.new.variables pack.new.nodes result }
 {
     let k = seen.nodes;
     let h = text_names::hash(text, s);
     if text_names::declared(text, table, s, h) {
-        let v = number_variable(text, s, h, variables, seen.variables)?;
-        nodes[k] = FIRST_VARIABLE + v as u8;
+        let v = number_variable(text, s, h, &mut names.variables, seen.variables)?;
+        pack.nodes[k] = FIRST_VARIABLE + v as u8;
         return Some(Seen {
             variables: seen.variables.max(v + 1),
             nodes: k + 1,
             ..seen
         });
     }
-    let f = number_symbol(text, s, h, count, symbols, arities, seen.symbols)?;
-    nodes[k] = f as u8;
+    let f = number_symbol(
+        text,
+        s,
+        h,
+        count,
+        &mut names.symbols,
+        &mut pack.arities,
+        seen.symbols,
+    )?;
+    pack.nodes[k] = f as u8;
     Some(Seen {
         symbols: seen.symbols.max(f + 1),
         nodes: k + 1,
@@ -139,15 +154,14 @@ pub fn number_uses(
     text: &[u8],
     table: &[u16],
     uses: &[Use],
-    symbols: &mut [u64],
-    arities: &mut [u8],
-    variables: &mut [u64],
-    nodes: &mut [u8],
+    names: &mut Names,
+    pack: &mut Pack,
     seen: Seen,
 ) -> Option<Seen>
-    requires { UsesAsked text.now table.now uses.now symbols.old arities.old variables.old nodes.old seen }
-    ensures goes { NumberingGoes text.now symbols.new arities.new variables.new nodes.new seen.nodes (length uses.now) result }
-    ensures told { (vs : List Name) (x : Numbering) → VariablesKept text.now table.now vs → TablesKept text.now symbols.old arities.old variables.old nodes.old seen x → NumberingTold (uses_numbered vs (kept_uses text.now uses.now (length uses.now)) x) text.now symbols.new arities.new variables.new nodes.new result }
+    requires { UsesAsked text.now table.now uses.now names.old.symbols pack.old.arities names.old.variables pack.old.nodes seen }
+    ensures goes { NumberingGoes text.now names.new.symbols pack.new.arities names.new.variables pack.new.nodes seen.nodes (length uses.now) result }
+    ensures starts { pack.new.starts ≡ pack.old.starts }
+    ensures told { (vs : List Name) (x : Numbering) → VariablesKept text.now table.now vs → TablesKept text.now names.old.symbols pack.old.arities names.old.variables pack.old.nodes seen x → NumberingTold (uses_numbered vs (kept_uses text.now uses.now (length uses.now)) x) text.now names.new.symbols pack.new.arities names.new.variables pack.new.nodes result }
 {
     let mut now = seen;
     for u in uses {
@@ -156,10 +170,8 @@ pub fn number_uses(
             table,
             usize::from(u.place),
             usize::from(u.count),
-            symbols,
-            arities,
-            variables,
-            nodes,
+            names,
+            pack,
             now,
         )?;
     }

@@ -10,8 +10,8 @@ ghost use Rattle.text_names.specs.Table.{VariablesKept};
 ghost use Rattle.text_grammar.specs.Grammar.{RulesStand};
 ghost use Rattle.text_reader.specs.Tables.{TablesKept, ReadAsked, SideGoes, SideKeptTold, RuleGoes, RuleTold, RulesGiven, RulesTold};
 
-use crate::numbering::{Seen, number_uses};
-use pack_reader::{MOST_NODES, MOST_RULES};
+use crate::numbering::{Names, Seen, number_uses};
+use pack_reader::{MOST_NODES, MOST_RULES, Pack};
 use records::Refusal;
 use terms::{MOST_SYMBOLS, MOST_VARIABLES};
 use text_sides::Use;
@@ -45,19 +45,18 @@ fn read_side(
     at: usize,
     table: &[u16],
     found: &mut [Use],
-    symbols: &mut [u64],
-    arities: &mut [u8],
-    variables: &mut [u64],
-    nodes: &mut [u8],
+    names: &mut Names,
+    pack: &mut Pack,
     seen: Seen,
 ) -> Option<SideKept>
-    requires { ReadAsked text.now at table.now found.old symbols.old arities.old variables.old nodes.old seen 32 }
-    ensures goes { SideGoes text.now at found.new symbols.new arities.new variables.new nodes.new seen.nodes result }
-    ensures told { (vs : List Name) (x : Numbering) (p : TermPhrase) (rest : List TextToken) → VariablesKept text.now table.now vs → TablesKept text.now symbols.old arities.old variables.old nodes.old seen x → tokens_at text.now at ≡ spelled p ++ rest → no_list rest ≡ true → SideKeptTold (side_numbered vs p x) rest text.now symbols.new arities.new variables.new nodes.new result }
+    requires { ReadAsked text.now at table.now found.old names.old.symbols pack.old.arities names.old.variables pack.old.nodes seen 32 }
+    ensures goes { SideGoes text.now at found.new names.new.symbols pack.new.arities names.new.variables pack.new.nodes seen.nodes result }
+    ensures starts { pack.new.starts ≡ pack.old.starts }
+    ensures told { (vs : List Name) (x : Numbering) (p : TermPhrase) (rest : List TextToken) → VariablesKept text.now table.now vs → TablesKept text.now names.old.symbols pack.old.arities names.old.variables pack.old.nodes seen x → tokens_at text.now at ≡ spelled p ++ rest → no_list rest ≡ true → SideKeptTold (side_numbered vs p x) rest text.now names.new.symbols pack.new.arities names.new.variables pack.new.nodes result }
 {
     let side = text_sides::term_at(text, at, 0, found)?;
     let uses = &found[..side.names];
-    let seen = number_uses(text, table, uses, symbols, arities, variables, nodes, seen)?;
+    let seen = number_uses(text, table, uses, names, pack, seen)?;
     Some(SideKept {
         next: side.next,
         seen,
@@ -70,25 +69,20 @@ fn read_rule(
     at: usize,
     table: &[u16],
     found: &mut [Use],
-    symbols: &mut [u64],
-    arities: &mut [u8],
-    variables: &mut [u64],
-    nodes: &mut [u8],
+    names: &mut Names,
+    pack: &mut Pack,
     seen: Seen,
 ) -> Option<RuleKept>
-    requires { ReadAsked text.now at table.now found.old symbols.old arities.old variables.old nodes.old seen 64 }
-    ensures goes { RuleGoes text.now at found.new symbols.new arities.new variables.new nodes.new seen.nodes result }
-    ensures told { (vs : List Name) (x : Numbering) (p : TextRule) (rest : List TextToken) → VariablesKept text.now table.now vs → TablesKept text.now symbols.old arities.old variables.old nodes.old seen (new_rule x) → tokens_at text.now at ≡ spelled p.left ++ (arrow ∷ (spelled p.right ++ rest)) → no_list rest ≡ true → RuleTold (rule_numbered vs p x) (length x.nodes + length (uses p.left)) rest text.now symbols.new arities.new variables.new nodes.new result }
+    requires { ReadAsked text.now at table.now found.old names.old.symbols pack.old.arities names.old.variables pack.old.nodes seen 64 }
+    ensures goes { RuleGoes text.now at found.new names.new.symbols pack.new.arities names.new.variables pack.new.nodes seen.nodes result }
+    ensures starts { pack.new.starts ≡ pack.old.starts }
+    ensures told { (vs : List Name) (x : Numbering) (p : TextRule) (rest : List TextToken) → VariablesKept text.now table.now vs → TablesKept text.now names.old.symbols pack.old.arities names.old.variables pack.old.nodes seen (new_rule x) → tokens_at text.now at ≡ spelled p.left ++ (arrow ∷ (spelled p.right ++ rest)) → no_list rest ≡ true → RuleTold (rule_numbered vs p x) (length x.nodes + length (uses p.left)) rest text.now names.new.symbols pack.new.arities names.new.variables pack.new.nodes result }
 {
-    let left = read_side(
-        text, at, table, found, symbols, arities, variables, nodes, seen,
-    )?;
+    let left = read_side(text, at, table, found, names, pack, seen)?;
     let Token::Arrow(b) = text_tokens::next_token(text, left.next) else {
         return None;
     };
-    let right = read_side(
-        text, b, table, found, symbols, arities, variables, nodes, left.seen,
-    )?;
+    let right = read_side(text, b, table, found, names, pack, left.seen)?;
     Some(RuleKept {
         next: right.next,
         middle: left.seen.nodes,
@@ -97,25 +91,20 @@ fn read_rule(
 }
 
 // Reads the rules from place `at` on, up to the parenthesis that closes them.
-pub fn read_rules(
-    text: &[u8],
-    at: usize,
-    table: &[u16],
-    arities: &mut [u8],
-    starts: &mut [u16],
-    nodes: &mut [u8],
-) -> Result<Counts, Refusal>
-    requires { RulesGiven text.now at table.now arities.old starts.old nodes.old }
-    ensures { (vs : List Name) (rs : List TextRule) → VariablesKept text.now table.now vs → RulesStand text.now at vs rs → RulesTold (rules_numbered vs 0 rs none_yet) rs result arities.new starts.new nodes.new }
+pub fn read_rules(text: &[u8], at: usize, table: &[u16], pack: &mut Pack) -> Result<Counts, Refusal>
+    requires { RulesGiven text.now at table.now pack.old.arities pack.old.starts pack.old.nodes }
+    ensures { (vs : List Name) (rs : List TextRule) → VariablesKept text.now table.now vs → RulesStand text.now at vs rs → RulesTold (rules_numbered vs 0 rs none_yet) rs result pack.new.arities pack.new.starts pack.new.nodes }
 {
-    let mut symbols = [0u64; MOST_SYMBOLS];
-    let mut variables = [0u64; MOST_VARIABLES];
+    let mut names = Names {
+        symbols: [0; MOST_SYMBOLS],
+        variables: [0; MOST_VARIABLES],
+    };
     let mut found = [Use { place: 0, count: 0 }; MOST_NODES];
     let mut count = 0;
     let mut kept = 0;
     let mut rules = 0;
     let mut i = at;
-    starts[0] = 0;
+    pack.starts[0] = 0;
     while let Token::Name(_, _) = text_tokens::next_token(text, i) {
         if MOST_RULES <= rules {
             return Err(Refusal::TextLimits);
@@ -125,21 +114,11 @@ pub fn read_rules(
             variables: 0,
             nodes: kept,
         };
-        let Some(rule) = read_rule(
-            text,
-            i,
-            table,
-            &mut found,
-            &mut symbols,
-            arities,
-            &mut variables,
-            nodes,
-            seen,
-        ) else {
+        let Some(rule) = read_rule(text, i, table, &mut found, &mut names, pack, seen) else {
             return Err(Refusal::TextLimits);
         };
-        starts[2 * rules + 1] = rule.middle as u16;
-        starts[2 * rules + 2] = rule.seen.nodes as u16;
+        pack.starts[2 * rules + 1] = rule.middle as u16;
+        pack.starts[2 * rules + 2] = rule.seen.nodes as u16;
         count = rule.seen.symbols;
         kept = rule.seen.nodes;
         rules += 1;

@@ -34,19 +34,20 @@ returns-in_err-v c =
     let t = c.requires.tables in
     rw c.from_residual.ensures (record {
       goes = (t.symbols_long, t.arities_long, c.number_variable.auto.variables ∙ t.variables_long, t.nodes_long);
+      starts = refl;
       told =
           λ vs x kept tables.
           rw (is_variable vs (a_use a.text.now a.s a.count) x (sym (c.declared.ensures vs kept) ∙ c.if-declared.true))
-          (variable_over a.text.now a.s _ (given c.requires c.hash-h.ensures) _ _ a.variables.now _ _ _ _ _ x (omega (arith, t.nodes_long, c.requires.room)) tables c.in_err-v.ensures _ _ _ _);
+          (variable_over a.text.now a.s _ (given c.requires c.hash-h.ensures) _ _ a.names.now.variables _ _ _ _ _ x (omega (arith, t.nodes_long, c.requires.room)) tables c.in_err-v.ensures _ _ _ _);
     })
 
-pub overflow_cast-nodes : goal.overflow_cast-nodes
-overflow_cast-nodes c =
+pub overflow_cast-pack : goal.overflow_cast-pack
+overflow_cast-pack c =
     let below : c.in_ok-v.v < variable_count = variable_small _ _ _ (given c.requires c.hash-h.ensures) _ _ _ _ c.requires.tables.variables_few c.in_ok-v.ensures in
     omega arith
 
-pub overflow_add-nodes : goal.overflow_add-nodes
-overflow_add-nodes c =
+pub overflow_add-pack : goal.overflow_add-pack
+overflow_add-pack c =
     let below : c.in_ok-v.v < variable_count = variable_small _ _ _ (given c.requires c.hash-h.ensures) _ _ _ _ c.requires.tables.variables_few c.in_ok-v.ensures in
     omega arith
 
@@ -64,10 +65,11 @@ returns-then-declared c =
     let many : c.max.result ≡ max a.seen.variables (c.in_ok-v.v + 1) = search rules in
     record {
       goes = (variable_good a.text.now a.s _ (given c.requires c.hash-h.ensures) _ _ _ _ _ _ _ _ _ _ _ t told many, refl);
+      starts = refl;
       told =
           λ vs x kept tables.
           rw (is_variable vs (a_use a.text.now a.s a.count) x (sym (c.declared.ensures vs kept) ∙ c.if-declared.true))
-          (variable_told a.text.now a.s _ (given c.requires c.hash-h.ensures) _ _ a.variables.now _ _ _ _ _ x (omega (arith, t.nodes_long, c.requires.room)) tables _ _ _ refl t.variables_long told many);
+          (variable_told a.text.now a.s _ (given c.requires c.hash-h.ensures) _ _ a.names.now.variables _ _ _ _ _ x (omega (arith, t.nodes_long, c.requires.room)) tables _ _ _ refl t.variables_long told many);
     }
 
 -- A SYMBOL
@@ -83,8 +85,8 @@ number_symbol-requires c =
       count_few = q.count_few;
     }
 
-pub overflow_cast-nodes-2 : goal.overflow_cast-nodes-2
-overflow_cast-nodes-2 c =
+pub overflow_cast-pack-2 : goal.overflow_cast-pack-2
+overflow_cast-pack-2 c =
     let below : c.in_ok-f.f < most_symbols = symbol_small _ _ _ (given c.requires c.hash-h.ensures) _ _ _ _ _ _ _ c.requires.tables.symbols_few c.in_ok-f.ensures in
     omega arith
 
@@ -100,10 +102,11 @@ returns-in_err-f c =
     let t = c.requires.tables in
     rw c.from_residual-in_err-f.ensures (record {
       goes = (c.number_symbol.auto.symbols ∙ t.symbols_long, c.number_symbol.auto.arities ∙ t.arities_long, t.variables_long, t.nodes_long);
+      starts = refl;
       told =
           λ vs x kept tables.
           rw (is_symbol vs (a_use a.text.now a.s a.count) x (sym (c.declared.ensures vs kept) ∙ c.if-declared.false))
-          (symbol_refused a.text.now a.s _ (given c.requires c.hash-h.ensures) a.count a.symbols.now _ a.arities.now _ _ _ _ _ _ x (omega (arith, t.nodes_long, c.requires.room)) tables c.in_err-f.ensures _ _ _ _);
+          (symbol_refused a.text.now a.s _ (given c.requires c.hash-h.ensures) a.count a.names.now.symbols _ a.pack.now.arities _ _ _ _ _ _ x (omega (arith, t.nodes_long, c.requires.room)) tables c.in_err-f.ensures _ _ _ _);
     })
 
 pub returns : goal.returns
@@ -115,8 +118,9 @@ returns c =
     let many : c.max-2.result ≡ max a.seen.symbols (c.in_ok-f.f + 1) = search rules in
     record {
       goes = (symbol_good a.text.now a.s _ (given c.requires c.hash-h.ensures) a.count _ _ _ _ _ _ _ _ _ _ _ _ t told many, refl);
+      starts = refl;
       told =
           λ vs x kept tables.
           rw (is_symbol vs (a_use a.text.now a.s a.count) x (sym (c.declared.ensures vs kept) ∙ c.if-declared.false))
-          (symbol_told a.text.now a.s _ (given c.requires c.hash-h.ensures) a.count a.symbols.now _ a.arities.now _ _ _ _ _ _ x (omega (arith, t.nodes_long, c.requires.room)) tables _ _ _ refl t.symbols_long t.arities_long told many);
+          (symbol_told a.text.now a.s _ (given c.requires c.hash-h.ensures) a.count a.names.now.symbols _ a.pack.now.arities _ _ _ _ _ _ x (omega (arith, t.nodes_long, c.requires.room)) tables _ _ _ refl t.symbols_long t.arities_long told many);
     }

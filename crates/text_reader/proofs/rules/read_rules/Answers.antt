@@ -33,14 +33,14 @@ returns-in_default-read_rule c =
     rule_over _ _ vs rs _ _ _ _ _ _ _ _ s _ _ c.in-Name.ensures c.if-rules-ge-MOST_RULES.false _ _ _ _ _ _ _
     (λ p rest is alone. c.in_default-read_rule.ensures.told vs s.numbering p rest kept s.tables is alone)
 
-pub overflow_cast-starts : goal.overflow_cast-starts
-overflow_cast-starts c =
+pub overflow_cast-pack : goal.overflow_cast-pack
+overflow_cast-pack c =
     let g = c.loop-seen.invariant.0 in
     let b = rule_bounds _ _ _ _ _ _ _ _ _ _ _ g _ _ _ _ _ c.in-Some.rule c.in-Some.ensures.goes in
     omega (arith, b, g.nodes_few)
 
-pub overflow_cast-starts-in-Name : goal.overflow_cast-starts-in-Name
-overflow_cast-starts-in-Name c =
+pub overflow_cast-pack-in-Name : goal.overflow_cast-pack-in-Name
+overflow_cast-pack-in-Name c =
     let g = c.loop-seen.invariant.0 in
     let b = rule_bounds _ _ _ _ _ _ _ _ _ _ _ g _ _ _ _ _ c.in-Some.rule c.in-Some.ensures.goes in
     omega (arith, b, g.nodes_few)
@@ -56,11 +56,11 @@ unfolding Told
 loop-seen-preserved c =
     let g = c.loop-seen.invariant.0 in
     let r = c.in-Some.ensures in (
-      goes_more _ _ _ _ _ _ _ _ _ _ _ g _ _ _ _ _ c.in-Some.rule r.goes c.if-rules-ge-MOST_RULES.false _,
+      rw r.starts (goes_more _ _ _ _ _ _ _ _ _ _ _ g _ _ _ _ _ c.in-Some.rule r.goes c.if-rules-ge-MOST_RULES.false _),
       λ vs rs kept stand.
           let s = c.loop-seen.invariant.1 vs rs kept stand in
-          more _ _ vs rs _ _ _ _ _ _ _ _ s _ _ c.in-Name.ensures c.if-rules-ge-MOST_RULES.false _ _ _ _ c.in-Some.rule
-          (λ p rest is alone. r.told vs s.numbering p rest kept s.tables is alone) g.starts_long,
+          rw r.starts (more _ _ vs rs _ _ _ _ _ _ _ _ s _ _ c.in-Name.ensures c.if-rules-ge-MOST_RULES.false _ _ _ _ c.in-Some.rule
+          (λ p rest is alone. r.told vs s.numbering p rest kept s.tables is alone) g.starts_long),
     )
 
 pub returns : goal.returns

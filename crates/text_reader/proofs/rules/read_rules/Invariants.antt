@@ -12,8 +12,8 @@ use Rattle.text_reader.proofs.rules.read_rules.Given as goal
 
 abbrev pub invariant-loop-seen : goal.invariant-loop-seen
 invariant-loop-seen l =
-    GoesOn l.text l.i l.symbols l.arities l.variables l.found l.starts l.nodes l.count l.kept l.rules
-    × ((vs : List Name) (rs : List TextRule) → VariablesKept l.text l.table vs → RulesStand l.text l.at vs rs → SoFar l.text l.i vs rs l.symbols l.arities l.variables l.starts l.nodes l.count l.kept l.rules)
+    GoesOn l.text l.i l.names.symbols l.pack.arities l.names.variables l.found l.pack.starts l.pack.nodes l.count l.kept l.rules
+    × ((vs : List Name) (rs : List TextRule) → VariablesKept l.text l.table vs → RulesStand l.text l.at vs rs → SoFar l.text l.i vs rs l.names.symbols l.pack.arities l.names.variables l.pack.starts l.pack.nodes l.count l.kept l.rules)
 
 abbrev pub decreases-loop-seen : goal.decreases-loop-seen
 decreases-loop-seen l = length l.text - l.i

@@ -1,5 +1,5 @@
 -- `text_reader::rules::read_side` meets its contract: its names are found, then numbered.
-use mathlib.Core.Path.{sym}
+use mathlib.Core.Path.{refl, sym}
 use native.Mathlib.Omega.{arith}
 use Rattle.std.proofs.lemmas.List.{length-take-le}
 use Rattle.text_sides.specs.Sides.{Goes}
@@ -11,6 +11,7 @@ returns-in_err-side c =
     let r = c.in_err-side.ensures in
     rw c.from_residual.ensures (record {
       goes = many_goes _ _ _ _ _ _ _ _ _ _ c.requires r.goes;
+      starts = refl;
       told = λ vs x p rest kept tables is alone. many_told _ _ _ _ _ _ _ _ _ _ c.requires vs x p rest (r.told p rest is alone);
     })
 
@@ -35,6 +36,7 @@ returns-in_err-seen c =
     let r = c.in_err-seen.ensures in
     rw c.from_residual-in_err-seen.ensures (record {
       goes = over_goes _ _ _ _ _ _ _ _ _ _ c.requires c.in_ok-side.side side.goes _ _ _ _ r.goes;
+      starts = r.starts;
       told =
           λ vs x p rest kept tables is alone.
           over_told _ _ _ _ _ _ _ _ _ _ c.requires c.in_ok-side.side side.goes _ _ _ _ vs x p rest (side.told p rest is alone) (r.told vs x kept tables);
@@ -46,6 +48,7 @@ returns c =
     let r = c.in_ok-seen.ensures in
     record {
       goes = side_goes _ _ _ _ _ _ _ _ _ _ c.requires c.in_ok-side.side side.goes _ _ _ _ c.in_ok-seen.seen r.goes;
+      starts = r.starts;
       told =
           λ vs x p rest kept tables is alone.
           side_told _ _ _ _ _ _ _ _ _ _ c.requires c.in_ok-side.side side.goes _ _ _ _ vs x p rest (side.told p rest is alone) c.in_ok-seen.seen (r.told vs x kept tables);
