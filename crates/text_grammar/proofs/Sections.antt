@@ -1,12 +1,11 @@
 -- What a text's sections come to, by what the code finds at places.
-use mathlib.Core.Path.{◌≡◌, refl, sym, ap, ◌∙◌}
+use mathlib.Core.Path.{◌≡◌, refl, sym, ap}
 use mathlib.Core.Bool.{true, false, cond, false≢true}
 use mathlib.Core.List.{List, []}
 use mathlib.Core.Option.{Option, none, some, none-ne-some}
 use Prim.Native.Nat.{ℕ, zero, suc, ◌≤◌}
 use native.Mathlib.Omega.{arith}
-use lib.ListN.{length, set, length-set}
-use lib.Seq.{get_or-set_same, get_or-set_other}
+use lib.ListN.{length}
 use Rattle.std.specs.Prelude.{Result, Ok, Err}
 use Rattle.records.specs.declared.Refusal.{Refusal}
 use Rattle.records.specs.declared.Refusal.TheVariants.{BadText}
@@ -17,6 +16,7 @@ use Rattle.texts.proofs.Parsing.{rules_only, heading_only}
 use Rattle.text_tokens.specs.declared.Token.{Token as ToldToken}
 use Rattle.text_tokens.specs.declared.Token.TheVariants.{Name as ToldName, Open, Close, Comma, Arrow, Bad, End}
 use Rattle.text_tokens.specs.Told.{name_at, tokens_at, Moves, Named, Told}
+use Rattle.text_names.specs.declared.Table.{Table}
 use Rattle.text_names.specs.Table.{VariablesKept, TableEmpty, VariablesRead}
 use Rattle.text_grammar.specs.Grammar.{is_some, no_tokens, GrammarAsked, BadAnswer, HeadingTold, rules_behind, BehindTold, GrammarTold}
 
@@ -94,7 +94,7 @@ module _ (text : List ℕ) where
   later w (suc e) h = omega arith
 
 -- THE VARIABLES
-module _ (text : List ℕ) (at : ℕ) (z : List ℕ) where
+module _ (text : List ℕ) (at : ℕ) (z : Table) where
   pub same_answer : (o : Option (List Token)) (x y : Result ℕ Refusal) → x ≡ y → VariablesRead text at o x z → VariablesRead text at o y z
   same_answer o x y e h = rw e at h
 
@@ -112,16 +112,9 @@ module _ (text : List ℕ) (at : ℕ) (z : List ℕ) where
       let is : e ≡ h.0 = cc in
       (rw is (ap some (sym h.2)), rw is h.3, h.4)
 
--- a table in which only the list's place stands
-pub table_empty : (text table : List ℕ) (a : ℕ) → GrammarAsked text table → a ≤ length text → 1 ≤ a → TableEmpty text (set table 0 a) a
-table_empty text table a q h later = record {
-  text_short = q.text_short;
-  long = length-set table 0 a ∙ q.long;
-  within = h;
-  later = later;
-  begins = get_or-set_same table 0 a 0 (omega (arith, q.long));
-  free = λ j k. get_or-set_other table 0 j a 0 (λ e. omega arith) ∙ q.free j;
-}
+-- they may be read from a place behind a heading on
+pub table_empty : (text : List ℕ) (table : Table) (a : ℕ) → GrammarAsked text table → a ≤ length text → 1 ≤ a → TableEmpty text table a
+table_empty text table a q h later = record { text_short = q.text_short; within = h; later = later; free = q.free }
 
 -- THE RULES behind the variables
 module _ (text : List ℕ) (vs : List Name) (ts : List Token) where
@@ -158,7 +151,7 @@ module _ (text : List ℕ) where
   unfolding tokens_at
   from_start = refl
 
-  module _ (y : Refusal) (z : List ℕ) where
+  module _ (y : Refusal) (z : Table) where
     pub no_variables : HeadingTold text (heading_read VAR (tokens_at text 0)) (Err y) → GrammarTold text (parse (tokens text)) (Err y) z
     unfolding parse GrammarTold
     no_variables h = let k = none_told text y _ h in rw (← from_start, k.0) k.1
@@ -169,7 +162,7 @@ module _ (text : List ℕ) where
     bad_variables a e h = let k = names_refused text a z y _ h in rw (← from_start, e, k.0) k.1
 
   -- the rules behind decide
-  module _ (a b : ℕ) (z : List ℕ) (e : heading_read VAR (tokens_at text 0) ≡ some (tokens_at text a)) (n : VariablesRead text a (after_names (tokens_at text a)) (Ok b) z) where
+  module _ (a b : ℕ) (z : Table) (e : heading_read VAR (tokens_at text 0) ≡ some (tokens_at text a)) (n : VariablesRead text a (after_names (tokens_at text a)) (Ok b) z) where
     abbrev names : List Name
     names = listed (tokens_at text a)
 

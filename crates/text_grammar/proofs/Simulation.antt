@@ -10,6 +10,7 @@ use Rattle.texts.specs.Tokens.{Name, Token, name, opens, closes, comma, arrow, b
 use Rattle.texts.specs.Spelling.{Phrase, bare, applied, nil, cons, TermPhrase, TextRule, among}
 use Rattle.texts.specs.TextReading.{Mode, between, wanted, opened, complete, OpenList, Reading, at_start, with_last, name_read, list_opened, list_closed, comma_read, arrow_read, token_read, rules_whole, last_read, rules_from}
 use Rattle.text_tokens.specs.Told.{name_at, tokens_at, Moves, NothingGood}
+use Rattle.text_names.specs.declared.Table.{Table}
 use Rattle.text_names.specs.Table.{VariablesKept}
 use Rattle.text_grammar.specs.Grammar.{is_some, no_tokens}
 
@@ -46,7 +47,7 @@ pub first_follows : (text : List ℕ) (at : ℕ) (vs : List Name) → Follows te
 first_follows text at vs = record { reading = at_start; simulated = at_first refl refl refl; same = refl }
 
 -- what the loop keeps, for all variables that the table keeps
-pub record Kept (text : List ℕ) (at : ℕ) (table : List ℕ) (mode depth : ℕ) (right : Bool) (last i : ℕ) : Type 0 where
+pub record Kept (text : List ℕ) (at : ℕ) (table : Table) (mode depth : ℕ) (right : Bool) (last i : ℕ) : Type 0 where
   pub text_short : length text ≤ 32768
   pub within : i ≤ length text
   pub shallow : depth ≤ i
@@ -396,7 +397,7 @@ module _ {text : List ℕ} {at : ℕ} {vs : List Name} {mode depth : ℕ} {right
           go opened [] l rs y q = elim y [ ]
 
 -- what the loop keeps after a token
-module _ {text : List ℕ} {at : ℕ} {table : List ℕ} {mode depth : ℕ} {right : Bool} {last i : ℕ} (k : Kept text at table mode depth right last i) where
+module _ {text : List ℕ} {at : ℕ} {table : Table} {mode depth : ℕ} {right : Bool} {last i : ℕ} (k : Kept text at table mode depth right last i) where
   pub kept_on : {t : Token} {e : ℕ} → Moves text i t e → (mode₂ depth₂ : ℕ) (right₂ : Bool) (last₂ : ℕ) → depth₂ ≤ depth + 1 → last₂ ≤ length text
       → ((vs : List Name) → VariablesKept text table vs → Follows text at vs mode₂ depth₂ right₂ last₂ e) → Kept text at table mode₂ depth₂ right₂ last₂ e
   kept_on m mode₂ depth₂ right₂ last₂ d n f = record {

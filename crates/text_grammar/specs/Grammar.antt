@@ -1,5 +1,5 @@
 -- How the code tells whether a text is in the grammar. The contracts between our own functions speak of it; no promise to a user does.
-use Rattle.std.specs.Prelude.{◌≡◌, Result, Ok, Err, Bool, true, false, List, [], ◌∷◌, ◌++◌, ℕ, ◌≤◌, length, get_or}
+use Rattle.std.specs.Prelude.{◌≡◌, Result, Ok, Err, Bool, true, false, List, [], ◌∷◌, ◌++◌, ℕ, ◌≤◌, length}
 use Rattle.std.proofs.Math.Option.{Option, none, some}
 use Rattle.records.specs.declared.Refusal.{Refusal}
 use Rattle.records.specs.Answers.{number_of}
@@ -9,7 +9,8 @@ use Rattle.texts.specs.TextReading.{then, at_start, rules_from, heading_read}
 use Rattle.text_tokens.specs.Told.{tokens_at}
 use Rattle.text_grammar.specs.declared.Mode.{Mode}
 use Rattle.text_grammar.specs.declared.Mode.TheVariants.{Wanted, Opened, Named, Ended}
-use Rattle.text_names.specs.Table.{table_room, VariablesKept}
+use Rattle.text_names.specs.declared.Table.{Table}
+use Rattle.text_names.specs.Table.{VariablesKept, TableFree}
 
 -- where the loop over the rules stands, as a number: 0 and 1 where a term may come, 2 and 3 behind one
 abbrev pub rank : Mode → ℕ
@@ -28,16 +29,15 @@ no_tokens [] = true
 no_tokens (t ∷ ts) = false
 
 -- rules are to be read at a place, under some variables that the table keeps
-pub record RulesAsked (text : List ℕ) (at : ℕ) (table : List ℕ) : Type 0 where
+pub record RulesAsked (text : List ℕ) (at : ℕ) (table : Table) : Type 0 where
   pub within : at ≤ length text
   pub variables : List Name
   pub kept : VariablesKept text table variables
 
 -- a text is to be read with a table in which nothing is kept
-pub record GrammarAsked (text table : List ℕ) : Type 0 where
+pub record GrammarAsked (text : List ℕ) (table : Table) : Type 0 where
   pub text_short : length text ≤ most_text_bytes
-  pub long : length table ≡ table_room
-  pub free : (j : ℕ) → get_or table j 0 ≡ 0
+  pub free : TableFree table
 
 -- refused with 15
 unfoldable pub BadAnswer : Result ℕ Refusal → Type 0
@@ -62,7 +62,7 @@ unfoldable pub BehindTold : (text : List ℕ) → (variables : List Name) → Op
 BehindTold text vs none x = BadAnswer x
 BehindTold text vs (some rs) x = (at : ℕ) × (x ≡ Ok at) × RulesStand text at vs rs
 
-unfoldable pub GrammarTold : (text : List ℕ) → Option Text → Result ℕ Refusal → (table : List ℕ) → Type 0
+unfoldable pub GrammarTold : (text : List ℕ) → Option Text → Result ℕ Refusal → Table → Type 0
 GrammarTold text none x z = BadAnswer x
 GrammarTold text (some t) x z =
     (at : ℕ) × (x ≡ Ok at) × RulesStand text at t.variables t.rules × VariablesKept text z t.variables

@@ -8,6 +8,7 @@ ghost use Rattle.text_names.specs.Table.{VariablesKept};
 ghost use Rattle.text_grammar.specs.Grammar.{rank, is_some, no_tokens, rules_behind, RulesAsked, GrammarAsked, HeadingTold, BehindTold, GrammarTold};
 
 use records::Refusal;
+use text_names::Table;
 use text_tokens::Token;
 
 // The words that the two sections begin with.
@@ -47,7 +48,7 @@ fn at_end(text: &[u8], at: usize) -> bool
 
 // Whether rules and the parenthesis that closes the text stand from place `at` on. `depth` lists are open; `right` tells that the
 // rule's arrow was read, and is so before the first rule.
-fn rules_stand(text: &[u8], at: usize, table: &[u16]) -> bool
+fn rules_stand(text: &[u8], at: usize, table: &Table) -> bool
     requires { RulesAsked text.now at table.now }
     ensures { (vs : List Name) → VariablesKept text.now table.now vs → result ≡ is_some (rules_from vs at_start (tokens_at text.now at)) }
 {
@@ -129,18 +130,17 @@ fn heading(text: &[u8], at: usize, word: &[u8]) -> Result<usize, Refusal>
 }
 
 // The place where the rules of a text in the grammar begin, and the table of its variables; else 15.
-pub fn rules_place(text: &[u8], table: &mut [u16]) -> Result<usize, Refusal>
+pub fn rules_place(text: &[u8], table: &mut Table) -> Result<usize, Refusal>
     requires { GrammarAsked text.now table.old }
     ensures { GrammarTold text.now (parse (tokens text.now)) result table.new }
 {
     let a = heading(text, 0, VAR)?;
-    table[0] = a as u16;
     let b = text_names::read_variables(text, a, table)?;
     rules_behind(text, b, table)
 }
 
 // The rules behind the variables.
-fn rules_behind(text: &[u8], at: usize, table: &[u16]) -> Result<usize, Refusal>
+fn rules_behind(text: &[u8], at: usize, table: &Table) -> Result<usize, Refusal>
     requires { RulesAsked text.now at table.now }
     ensures { (vs : List Name) → VariablesKept text.now table.now vs → BehindTold text.now vs (rules_behind vs (tokens_at text.now at)) result }
 {

@@ -8,7 +8,7 @@ use lib.ListN.{length, get_or}
 use Rattle.texts.specs.Tokens.{Name, in_name}
 use Rattle.text_tokens.specs.Told.{name_at}
 use Rattle.text_tokens.proofs.Places.{name_at_end, name_more, name_no_more}
-use Rattle.text_names.specs.Table.{first_hint, hint_room, first_kept, hashes, hash_from, hash, hint}
+use Rattle.text_names.specs.Table.{hint_room, hashes, hash_from, hash, hint}
 
 -- BOUNDS
 
@@ -21,12 +21,12 @@ pub hash_small : (n : Name) → hash n < hashes
 unfolding hash
 hash_small n = hash_from_small 0 n (omega arith)
 
-pub hint_bounds : (n : Name) → (first_hint ≤ hint n) × (hint n < first_kept)
+pub hint_small : (n : Name) → hint n < hint_room
 unfolding hint
-hint_bounds n = (omega arith, omega arith)
+hint_small n = omega arith
 
 -- where the code looks
-pub hint_is : (n : Name) (h : ℕ) → h ≡ hash n → hint n ≡ first_hint + h % hint_room
+pub hint_is : (n : Name) (h : ℕ) → h ≡ hash n → hint n ≡ h % hint_room
 unfolding hint
 hint_is n h e = rw e
 

@@ -5,7 +5,7 @@ use mathlib.Core.List.{List, [], ◌∷◌, ◌++◌, append_assoc, append-nil}
 use mathlib.Core.Option.{none, some}
 use Prim.Native.Nat.{ℕ, ◌≤◌}
 use native.Mathlib.Omega.{arith}
-use lib.ListN.{length, get_or}
+use lib.ListN.{length}
 use Rattle.std.specs.Prelude.{Ok, Err}
 use Rattle.records.specs.declared.Refusal.TheVariants.{BadText}
 use Rattle.texts.specs.Tokens.{Name, closes}
@@ -15,8 +15,9 @@ use Rattle.text_tokens.specs.declared.Token.{Token as ToldToken}
 use Rattle.text_tokens.specs.declared.Token.TheVariants.{Name as ToldName, Open, Close, Comma, Arrow, Bad, End}
 use Rattle.text_tokens.specs.Told.{name_at, tokens_at, Moves, Named, Told}
 use Rattle.text_tokens.proofs.Places.{tokens_at_end}
+use Rattle.text_names.specs.declared.Table.{Table}
 use Rattle.text_names.specs.Table.{Holds, TableEmpty, VariablesRead}
-use Rattle.text_names.proofs.Table.{Keeps}
+use Rattle.text_names.proofs.KeptNames.{Keeps}
 
 module _ (text : List ℕ) (i : ℕ) where
   -- THE LIST from place i on
@@ -86,42 +87,43 @@ module _ (text : List ℕ) (i : ℕ) where
   after_other Bad m k l = rw m.is
   after_other End m k l = rw m
 
+-- a table whose list begins at a place
+abbrev pub listed_from : (table : Table) → (at : ℕ) → Table
+listed_from table at = record { list = at; count = table.count; rest = table.rest; hints = table.hints; names = table.names }
+
 -- WHAT IS READ before place i: the names, and they are kept
-pub record ReadBefore (text : List ℕ) (at : ℕ) (table : List ℕ) (i : ℕ) : Type 0 where
+pub record ReadBefore (text : List ℕ) (at : ℕ) (table : Table) (i : ℕ) : Type 0 where
   pub names : List Name
   pub are : listed (tokens_at text at) ≡ names ++ listed (tokens_at text i)
   pub behind : after_names (tokens_at text at) ≡ after_names (tokens_at text i)
-  pub begins : get_or table 0 0 ≡ at
+  pub begins : table.list ≡ at
   pub past : at ≤ i
   pub within : i ≤ length text
   pub holds : Holds text table names (listed (tokens_at text at))
 
-module _ (text : List ℕ) (at : ℕ) (table : List ℕ) where
-  pub read_none : TableEmpty text table at → ReadBefore text at table at
+module _ (text : List ℕ) (at : ℕ) (table : Table) where
+  pub read_none : TableEmpty text table at → ReadBefore text at (listed_from table at) at
   unfolding among
   read_none q = record {
     names = [];
     are = refl;
     behind = refl;
-    begins = q.begins;
+    begins = refl;
     past = omega arith;
     within = q.within;
     holds = record {
       names = record {
-        rising = record { long = q.long; few = omega (arith, none_kept); rises = λ i j l h. absurd (omega (arith, none_kept)) };
-        only = λ i h. absurd (omega (arith, none_kept));
+        rising = record { few = omega (arith, q.free.none_kept); rises = λ i j l h. absurd (omega (arith, q.free.none_kept)) };
+        only = λ i h. absurd (omega (arith, q.free.none_kept));
         all = λ z n e. absurd (false≢true e);
       };
-      hints = record { all = λ n e. absurd (false≢true e); only = λ j past h t. absurd (t (q.free j (omega arith))) };
-      rest = λ f. absurd (f (q.free 2 (omega arith)));
+      hints = record { all = λ n e. absurd (false≢true e); only = λ j h t. absurd (t (q.free.no_hints j)) };
+      rest = λ place e. absurd (cc (sym q.free.none_left_out ∙ e));
     };
   }
-    where
-      none_kept : get_or table 1 0 ≡ 0
-      none_kept = q.free 1 (omega arith)
 
   module _ (i : ℕ) (r : ReadBefore text at table i) where
-    pub read_more : (s e : ℕ) → Named text i s e → (z : List ℕ) → Keeps text i (name_at text s) table z → ReadBefore text at z e
+    pub read_more : (s e : ℕ) → Named text i s e → (z : Table) → Keeps text i (name_at text s) table z → ReadBefore text at z e
     read_more s e m z kept = record {
       names = r.names ++ (name_at text s ∷ []);
       are = r.are ∙ ap (λ (ns : List Name). r.names ++ ns) (listed_name text i s e m) ∙ sym (append_assoc r.names (name_at text s ∷ []) (listed (tokens_at text e)));

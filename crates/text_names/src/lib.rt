@@ -1,11 +1,11 @@
 #![tactic(auto)]
 // The names that VAR lists, in order, so that a name is looked up without going through the list.
-ghost use Rattle.std.specs.Prelude.{◌≡◌, List, ◌++◌, [], ◌∷◌, ◌+◌, ◌≤◌, ◌<◌, length, get_or};
+ghost use Rattle.std.specs.Prelude.{◌≡◌, List, ◌++◌, [], ◌∷◌, ◌≤◌, ◌<◌, length};
 ghost use Rattle.texts.specs.Tokens.{Name, most_text_bytes};
 ghost use Rattle.texts.specs.Spelling.{among};
 ghost use Rattle.texts.specs.TextReading.{listed, after_names};
 ghost use Rattle.text_tokens.specs.Told.{name_at, tokens_at};
-ghost use Rattle.text_names.specs.Table.{hash, hashes, less, Holds, VariablesKept, TableEmpty, VariablesRead, CompareAsked, SeekAsked, PlaceOf, is_kept_at, PutAsked, PutIn, KeepAsked, LookAsked, ScanAsked};
+ghost use Rattle.text_names.specs.Table.{hash, hashes, less, Holds, VariablesKept, TableFree, TableEmpty, VariablesRead, CompareAsked, SeekAsked, PlaceOf, is_kept_at, PutAsked, PutIn, KeepAsked, LookAsked, ScanAsked};
 
 use records::Refusal;
 use text_tokens::Token;
@@ -15,20 +15,42 @@ const HASHES: usize = 16777216;
 
 const FACTOR: usize = 10368889;
 
-// The table: the place where the list begins, how many names are kept, the place from which the names without room are listed, the
-// hints, the places of the names kept, which rise. A hint is the place of the last name read with such a hash, 0 if none was: most names
-// are answered by it.
-const FIRST_HINT: usize = 3;
-
+// How many hints there are.
 const HINTS: usize = 512;
-
-const NAMES: usize = FIRST_HINT + HINTS;
 
 // Where a text has more names than this, the list is looked through from the first one without room on. That part is short: so many
 // names (64 of one character, 4,096 of two, the others take four bytes each) leave at most 3,200 bytes of the text.
 const MOST_KEPT: usize = 8448;
 
-pub const TABLE_ROOM: usize = NAMES + MOST_KEPT;
+// The names that VAR lists.
+#[derive(Clone, Copy)]
+pub struct Table {
+    // The place where the list begins.
+    list: usize,
+    // How many names are kept.
+    count: usize,
+    // The place from which the names without room are listed.
+    rest: Option<usize>,
+    // A hint is the place of the last name read with such a hash, 0 if none was: most names are answered by it.
+    hints: [u16; HINTS],
+    // The places of the names kept, which rise in the order of names.
+    names: [u16; MOST_KEPT],
+}
+
+impl Table {
+    // A table in which nothing is kept.
+    pub fn new() -> Table
+        ensures { TableFree result }
+    {
+        Table {
+            list: 0,
+            count: 0,
+            rest: None,
+            hints: [0; HINTS],
+            names: [0; MOST_KEPT],
+        }
+    }
+}
 
 // The hash of the name that begins at place s.
 pub fn hash(text: &[u8], s: usize) -> usize
@@ -62,15 +84,15 @@ fn less_name(text: &[u8], a: usize, b: usize) -> bool
 }
 
 // How many of the names kept are before the one that begins at place s, by halving.
-fn search(text: &[u8], table: &[u16], s: usize) -> usize
+fn search(text: &[u8], table: &Table, s: usize) -> usize
     requires { SeekAsked text.now table.now s }
     ensures { PlaceOf text.now table.now (name_at text.now s) result }
 {
     let mut lo = 0;
-    let mut hi = usize::from(table[1]);
+    let mut hi = table.count;
     while lo < hi {
         let m = (lo + hi) / 2;
-        if less_name(text, usize::from(table[NAMES + m]), s) {
+        if less_name(text, usize::from(table.names[m]), s) {
             lo = m + 1;
         } else {
             hi = m;
@@ -80,46 +102,46 @@ fn search(text: &[u8], table: &[u16], s: usize) -> usize
 }
 
 // Whether the k-th name kept is the one that begins at place s.
-fn is_kept_at(text: &[u8], table: &[u16], k: usize, s: usize) -> bool
+fn is_kept_at(text: &[u8], table: &Table, k: usize, s: usize) -> bool
     requires { SeekAsked text.now table.now s }
     ensures { result ≡ is_kept_at text.now table.now (name_at text.now s) k }
 {
-    k < usize::from(table[1]) && text_tokens::same_name(text, usize::from(table[NAMES + k]), s)
+    k < table.count && text_tokens::same_name(text, usize::from(table.names[k]), s)
 }
 
 // Puts place s in as that of the k-th name kept; those from there on move up.
-fn put(table: &mut [u16], k: usize, s: usize)
+fn put(table: &mut Table, k: usize, s: usize)
     requires { PutAsked table.old k s }
     ensures { PutIn table.old table.new k s }
 {
-    let n = usize::from(table[1]);
-    table.copy_within(NAMES + k..NAMES + n, NAMES + k + 1);
-    table[NAMES + k] = s as u16;
-    table[1] += 1;
+    table.names.copy_within(k..table.count, k + 1);
+    table.names[k] = s as u16;
+    table.count += 1;
 }
 
 // Keeps the name that begins at place s and is next at place i of the list, once, and where room is left.
-fn keep(text: &[u8], table: &mut [u16], i: usize, s: usize)
+fn keep(text: &[u8], table: &mut Table, i: usize, s: usize)
     requires { KeepAsked text.now table.old i s }
-    ensures { (get_or table.new 0 0 ≡ get_or table.old 0 0) × ((ns vs : List Name) → vs ≡ ns ++ listed (tokens_at text.now i) → Holds text.now table.old ns vs → Holds text.now table.new (ns ++ (name_at text.now s ∷ [])) vs) }
+    ensures { (table.new.list ≡ table.old.list) × ((ns vs : List Name) → vs ≡ ns ++ listed (tokens_at text.now i) → Holds text.now table.old ns vs → Holds text.now table.new (ns ++ (name_at text.now s ∷ [])) vs) }
 {
-    table[FIRST_HINT + hash(text, s) % HINTS] = s as u16;
+    table.hints[hash(text, s) % HINTS] = s as u16;
     let k = search(text, table, s);
     if is_kept_at(text, table, k, s) {
         return;
     }
-    if usize::from(table[1]) < MOST_KEPT {
+    if table.count < MOST_KEPT {
         put(table, k, s);
-    } else if table[2] == 0 {
-        table[2] = i as u16;
+    } else if table.rest.is_none() {
+        table.rest = Some(i);
     }
 }
 
 // Reads VAR's names from place `at` on and keeps them. Answers the place after the parenthesis behind them.
-pub fn read_variables(text: &[u8], at: usize, table: &mut [u16]) -> Result<usize, Refusal>
+pub fn read_variables(text: &[u8], at: usize, table: &mut Table) -> Result<usize, Refusal>
     requires { TableEmpty text.now table.old at }
     ensures { VariablesRead text.now at (after_names (tokens_at text.now at)) result table.new }
 {
+    table.list = at;
     let mut i = at;
     loop {
         match text_tokens::next_token(text, i) {
@@ -149,11 +171,11 @@ fn is_listed(text: &[u8], at: usize, s: usize) -> bool
 }
 
 // Whether VAR lists the name that begins at place s and has hash h.
-pub fn declared(text: &[u8], table: &[u16], s: usize, h: usize) -> bool
+pub fn declared(text: &[u8], table: &Table, s: usize, h: usize) -> bool
     requires { LookAsked text.now table.now s h }
     ensures { (vs : List Name) → VariablesKept text.now table.now vs → result ≡ among (name_at text.now s) vs }
 {
-    let hint = usize::from(table[FIRST_HINT + h % HINTS]);
+    let hint = usize::from(table.hints[h % HINTS]);
     if hint == 0 {
         return false;
     }
@@ -164,6 +186,8 @@ pub fn declared(text: &[u8], table: &[u16], s: usize, h: usize) -> bool
     if is_kept_at(text, table, k, s) {
         return true;
     }
-    let rest = usize::from(table[2]);
-    rest != 0 && is_listed(text, rest, s)
+    match table.rest {
+        Some(rest) => is_listed(text, rest, s),
+        None => false,
+    }
 }

@@ -6,12 +6,10 @@ use mathlib.Core.List.{List, [], ◌∷◌, map}
 use mathlib.Core.Option.{Option, none, some}
 use Prim.Native.Nat.{ℕ, zero, suc, ◌+◌, ◌*◌, ◌≤◌, ◌<◌}
 use native.Mathlib.Omega.{arith}
-use lib.Dec.{ltb}
-use lib.ListN.{length, get_or, take, replicate, length-map, length-replicate, get_or-replicate, get_or-eq_default}
+use lib.ListN.{length, get_or, take, length-map}
 use lib.Seq.{get_or-take}
-use borrow.Author.Tests.{ltb-true, ltb-false, lt-ltb, le-ltb}
+use borrow.Author.Tests.{lt-ltb, le-ltb}
 use Rattle.rewriting.specs.Terms.{Rule, no_rule, rule}
-use Rattle.rewriting.proofs.Basics.{by_test}
 use Rattle.records.specs.declared.Refusal.{Refusal}
 use Rattle.records.specs.declared.Refusal.TheVariants.{BadText}
 use Rattle.records.specs.Outcomes.{Outcome, refused, passed}
@@ -28,8 +26,9 @@ use Rattle.texts.specs.TextReading.{parse, judged, read_text}
 use Rattle.texts.specs.Working.{Numbering, none_yet, rules_numbered, side_ends, rules_nodes, counts, NumberedAs}
 use Rattle.texts.proofs.Flat.{side_long, others_bare, left_symbols_small, right_symbols_small}
 use Rattle.texts.proofs.Numbering.{numbering_meets}
-use Rattle.text_names.specs.Table.{VariablesKept, table_room}
-use Rattle.text_grammar.specs.Grammar.{RulesStand, GrammarAsked, BadAnswer, GrammarTold}
+use Rattle.text_names.specs.declared.Table.{Table}
+use Rattle.text_names.specs.Table.{VariablesKept}
+use Rattle.text_grammar.specs.Grammar.{RulesStand, BadAnswer, GrammarTold}
 use Rattle.text_reader.specs.Tables.{Room, RefusedWith, RulesGiven, RulesKept, RulesTold, TextTold}
 
 -- WHERE RULES ARE KEPT
@@ -142,7 +141,7 @@ rules_meet t bare (passed y) (within, arities_are, nodes_are) r ar ss ns (c, is,
     rw within (c, is, k.room, kept_writable t bare y c ar ss ns k within arities_are nodes_are, k.symbols_few, k.rules_few)
 
 -- THE GRAMMAR'S ANSWER: 15, or the rules' place
-module _ (text table : List ℕ) where
+module _ (text : List ℕ) (table : Table) where
   refused_meets : (o : Option Text) (x : Refusal) (ar ss ns : List ℕ) → GrammarTold text o (Err x) table → TextTold (judged o) (Err x) ar ss ns
   unfolding GrammarTold BadAnswer TextTold judged RefusedWith
   refused_meets none x ar ss ns (y, e, n) = let same : x ≡ y = cc e in (y, rw same, n)
@@ -177,17 +176,7 @@ pub too_long : (text ar ss ns : List ℕ) → most_text_bytes < length text → 
 unfolding read_text TextTold RefusedWith
 too_long text ar ss ns h = rw (lt-ltb most_text_bytes (length text) h) (BadText, refl, refl)
 
--- a table in which nothing is kept
-pub grammar_asked : (text : List ℕ) → length text ≤ most_text_bytes → GrammarAsked text (replicate table_room 0)
-grammar_asked text h = record { text_short = h; long = length-replicate {A = ℕ} table_room 0; free = all_free }
-  where
-    all_free : (j : ℕ) → ◌≡◌ {A = ℕ} (get_or (replicate table_room 0) j 0) 0
-    all_free j =
-        by_test (ltb j table_room)
-        (λ b. get_or-replicate table_room j 0 0 (ltb-true j table_room b))
-        (λ b. get_or-eq_default (replicate table_room 0) 0 {n = j} (omega (arith, ltb-false j table_room b, length-replicate {A = ℕ} table_room 0)))
-
-module _ (text table ar ss ns : List ℕ) (short : length text ≤ most_text_bytes) where
+module _ (text : List ℕ) (table : Table) (ar ss ns : List ℕ) (short : length text ≤ most_text_bytes) where
   short_enough : read_text text ≡ judged (parse (tokens text))
   unfolding read_text
   short_enough = rw (le-ltb most_text_bytes (length text) short)

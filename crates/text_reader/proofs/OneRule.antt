@@ -25,6 +25,7 @@ use Rattle.text_sides.specs.declared.Use.{Use as KeptUse}
 use Rattle.text_sides.specs.declared.SideRead.{SideRead}
 use Rattle.text_sides.specs.Sides.{use_at, kept_uses, no_list, Goes, SideTold}
 use Rattle.text_sides.proofs.Kept.{kept_same}
+use Rattle.text_names.specs.declared.Table.{Table}
 use Rattle.text_reader.specs.declared.numbering.Seen.{Seen}
 use Rattle.text_reader.specs.declared.rules.SideKept.{SideKept}
 use Rattle.text_reader.specs.Tables.{TablesKept, UsesAsked, NumberingGoes, NumberingTold, ReadAsked, ReadOn, SideGoes, SideKeptTold, RuleGoes, RuleTold}
@@ -135,7 +136,7 @@ module _ (rest : List Token) (text ss ar xs ns : List ℕ) where
 uses_taken : (text : List ℕ) (us : List KeptUse) (n : ℕ) → n ≤ length us → kept_uses text (take n us) (length (take n us)) ≡ kept_uses text us n
 uses_taken text us n h = rw (length-take-le n us h) (kept_same text us (take n us) n (λ k l. get_or-take n us k _ l))
 
-module _ (text : List ℕ) (at : ℕ) (table : List ℕ) (found z : List KeptUse) (ss ar xs ns : List ℕ) (seen : Seen) (asked : ReadAsked text at table found ss ar xs ns seen most_nodes) where
+module _ (text : List ℕ) (at : ℕ) (table : Table) (found z : List KeptUse) (ss ar xs ns : List ℕ) (seen : Seen) (asked : ReadAsked text at table found ss ar xs ns seen most_nodes) where
   -- one name too many
   pub many_goes : Goes text at 0 None z → SideGoes text at z ss ar xs ns seen.nodes None
   unfolding Goes SideGoes
@@ -273,7 +274,7 @@ module _ (vs : List Name) (x : Numbering) (p : TextRule) (rest : List Token) (te
           rw (came.1, z.1) (record { next = right.next; middle = left.seen.nodes; seen = right.seen }, refl, middle, z.2, z.3)
 
 -- whatever is read
-module _ (text : List ℕ) (at : ℕ) (table : List ℕ) (us : List KeptUse) (ss ar xs ns : List ℕ) (seen : Seen) (asked : ReadAsked text at table us ss ar xs ns seen 64) where
+module _ (text : List ℕ) (at : ℕ) (table : Table) (us : List KeptUse) (ss ar xs ns : List ℕ) (seen : Seen) (asked : ReadAsked text at table us ss ar xs ns seen 64) where
   pub left_asked : ReadAsked text at table us ss ar xs ns seen most_nodes
   left_asked =
       record { names = asked.names; kept = asked.kept; within = asked.within; uses_long = asked.uses_long; tables = asked.tables; room = omega (arith, asked.room) }

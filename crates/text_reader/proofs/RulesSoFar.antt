@@ -26,6 +26,7 @@ use Rattle.text_tokens.specs.Told.{tokens_at, Told}
 use Rattle.text_sides.specs.declared.Use.{Use as KeptUse}
 use Rattle.text_sides.specs.Sides.{no_list}
 use Rattle.text_grammar.specs.Grammar.{RulesStand}
+use Rattle.text_names.specs.declared.Table.{Table}
 use Rattle.text_reader.specs.declared.numbering.Seen.{Seen}
 use Rattle.text_reader.specs.declared.rules.RuleKept.{RuleKept}
 use Rattle.text_reader.specs.Tables.{kept_names, kept_symbol, kept_symbols, TablesKept, TablesGood, NamesKept, ReadAsked, ReadOn, RuleGoes, RuleTold, RulesGiven, RefusedWith, RulesTold}
@@ -183,7 +184,7 @@ unfolding kept_names
 kept_between text ss ar xs ns now y t = record { symbols_are = t.symbols_are; variables_are = refl; nodes_are = t.nodes_are; nodes_many = t.nodes_many }
 
 -- the arrays as they are lent
-module _ (text : List ℕ) (at : ℕ) (table ar ss ns : List ℕ) (given : RulesGiven text at table ar ss ns) where
+module _ (text : List ℕ) (at : ℕ) (table : Table) (ar ss ns : List ℕ) (given : RulesGiven text at table ar ss ns) where
   pub goes_first : (sy xs : List ℕ) (us : List KeptUse) → length sy ≡ 64 → length xs ≡ 16 → length us ≡ 32 → GoesOn text at sy ar xs us (set ss 0 0) ns 0 0 0
   goes_first sy xs us a b c =
       record {
@@ -236,7 +237,7 @@ module _ (m : ℕ) (rest : List Token) (text ss ar xs ns : List ℕ) where
 
 -- ONE TURN, whatever is read
 module _ (text : List ℕ) (i : ℕ) (sy ar xs : List ℕ) (us : List KeptUse) (ss ns : List ℕ) (count kept rules : ℕ) (g : GoesOn text i sy ar xs us ss ns count kept rules) where
-  pub rule_asked : (at : ℕ) (table o p q : List ℕ) → RulesGiven text at table o p q → rules < most_rules → ReadAsked text i table us sy ar xs ns (between count kept) 64
+  pub rule_asked : (at : ℕ) (table : Table) (o p q : List ℕ) → RulesGiven text at table o p q → rules < most_rules → ReadAsked text i table us sy ar xs ns (between count kept) 64
   rule_asked at table o p q given h =
       record {
         names = given.variables;

@@ -12,6 +12,7 @@ use Rattle.texts.specs.Working.{Numbering, use_numbered, uses_numbered}
 use Rattle.text_names.specs.Table.{VariablesKept}
 use Rattle.text_sides.specs.declared.Use.{Use as KeptUse}
 use Rattle.text_sides.specs.Sides.{use_at, kept_use, kept_uses}
+use Rattle.text_names.specs.declared.Table.{Table}
 use Rattle.text_reader.specs.declared.numbering.Seen.{Seen}
 use Rattle.text_reader.specs.Tables.{a_use, TablesKept, TablesGood, NumberingGoes, NumberingTold}
 use Rattle.text_reader.proofs.Entries.{grown}
@@ -66,7 +67,7 @@ pub record ComesTo (vs : List Name) (us : List Use) (x : Numbering) (text ss ar 
   pub kept : TablesKept text ss ar xs ns seen numbering
 
 -- THE FIRST k USES are numbered; the arrays and counts with ₀ are those before
-module _ (text table : List ℕ) (found : List KeptUse) (ss₀ ar₀ xs₀ ns₀ : List ℕ) (seen₀ : Seen) where
+module _ (text : List ℕ) (table : Table) (found : List KeptUse) (ss₀ ar₀ xs₀ ns₀ : List ℕ) (seen₀ : Seen) where
   pub record SoFar (ss ar xs ns : List ℕ) (seen : Seen) (k : ℕ) : Type 0 where
     pub tables : TablesGood text ss ar xs ns seen
     pub nodes_many : seen.nodes ≡ seen₀.nodes + k

@@ -16,6 +16,7 @@ use Rattle.texts.specs.Spelling.{TextRule, among}
 use Rattle.texts.specs.Numbers.{Use, place}
 use Rattle.texts.specs.Working.{Numbering, counts, side_ends}
 use Rattle.text_tokens.specs.Told.{name_at, tokens_at}
+use Rattle.text_names.specs.declared.Table.{Table}
 use Rattle.text_names.specs.Table.{hash, hashes, VariablesKept}
 use Rattle.text_sides.specs.declared.Use.{Use as KeptUse}
 use Rattle.text_sides.specs.Sides.{use_at}
@@ -122,7 +123,7 @@ pub record TablesGood (text symbols arities variables nodes : List ℕ) (seen : 
   pub variables_kept : NamesKept text variables seen.variables
 
 -- a name is to be numbered, with room for its node
-pub record UseAsked (text table : List ℕ) (s count : ℕ) (symbols arities variables nodes : List ℕ) (seen : Seen) : Type 0 where
+pub record UseAsked (text : List ℕ) (table : Table) (s count : ℕ) (symbols arities variables nodes : List ℕ) (seen : Seen) : Type 0 where
   pub names : List Name
   pub kept : VariablesKept text table names
   pub within : s ≤ length text
@@ -131,7 +132,7 @@ pub record UseAsked (text table : List ℕ) (s count : ℕ) (symbols arities var
   pub room : seen.nodes < nodes_room
 
 -- so are names of a side
-pub record UsesAsked (text table : List ℕ) (uses : List KeptUse) (symbols arities variables nodes : List ℕ) (seen : Seen) : Type 0 where
+pub record UsesAsked (text : List ℕ) (table : Table) (uses : List KeptUse) (symbols arities variables nodes : List ℕ) (seen : Seen) : Type 0 where
   pub names : List Name
   pub kept : VariablesKept text table names
   pub places : (k : ℕ) → k < length uses → (use_at uses k).place ≤ length text
@@ -150,7 +151,7 @@ NumberingTold (refused n) text ss ar xs ns r = r ≡ None
 NumberingTold (passed y) text ss ar xs ns r = (seen : Seen) × (r ≡ Some seen) × TablesKept text ss ar xs ns seen y
 
 -- SIDES AND RULES are to be read and numbered, with room for some nodes more
-pub record ReadAsked (text : List ℕ) (at : ℕ) (table : List ℕ) (uses : List KeptUse) (symbols arities variables nodes : List ℕ) (seen : Seen) (more : ℕ) : Type 0 where
+pub record ReadAsked (text : List ℕ) (at : ℕ) (table : Table) (uses : List KeptUse) (symbols arities variables nodes : List ℕ) (seen : Seen) (more : ℕ) : Type 0 where
   pub names : List Name
   pub kept : VariablesKept text table names
   pub within : at ≤ length text
@@ -205,7 +206,7 @@ unfoldable pub RefusedWith : ℕ → Result Counts Refusal → Type 0
 RefusedWith n r = (y : Refusal) × (r ≡ Err y) × (number_of y ≡ n)
 
 -- rules of a text are to be read at a place
-pub record RulesGiven (text : List ℕ) (at : ℕ) (table arities starts nodes : List ℕ) : Type 0 where
+pub record RulesGiven (text : List ℕ) (at : ℕ) (table : Table) (arities starts nodes : List ℕ) : Type 0 where
   pub variables : List Name
   pub kept : VariablesKept text table variables
   pub within : at ≤ length text

@@ -10,6 +10,7 @@ ghost use Rattle.text_reader.specs.Tables.{name_entry, kept_names, a_use, FindAs
 
 use pack_reader::Pack;
 use terms::{FIRST_VARIABLE, MOST_SYMBOLS, MOST_VARIABLES};
+use text_names::Table;
 use text_sides::Use;
 
 // A place in a text lies below this.
@@ -109,7 +110,7 @@ fn number_symbol(
 // Numbers one name and keeps its node. None: a count is over its limit, or a symbol has two arities.
 fn number_use(
     text: &[u8],
-    table: &[u16],
+    table: &Table,
     s: usize,
     count: usize,
     names: &mut Names,
@@ -152,7 +153,7 @@ fn number_use(
 // Numbers names of a side.
 pub fn number_uses(
     text: &[u8],
-    table: &[u16],
+    table: &Table,
     uses: &[Use],
     names: &mut Names,
     pack: &mut Pack,

@@ -14,6 +14,7 @@ use crate::numbering::{Names, Seen, number_uses};
 use pack_reader::{MOST_NODES, MOST_RULES, Pack};
 use records::Refusal;
 use terms::{MOST_SYMBOLS, MOST_VARIABLES};
+use text_names::Table;
 use text_sides::Use;
 use text_tokens::Token;
 
@@ -43,7 +44,7 @@ pub struct Counts {
 fn read_side(
     text: &[u8],
     at: usize,
-    table: &[u16],
+    table: &Table,
     found: &mut [Use],
     names: &mut Names,
     pack: &mut Pack,
@@ -67,7 +68,7 @@ fn read_side(
 fn read_rule(
     text: &[u8],
     at: usize,
-    table: &[u16],
+    table: &Table,
     found: &mut [Use],
     names: &mut Names,
     pack: &mut Pack,
@@ -91,7 +92,7 @@ fn read_rule(
 }
 
 // Reads the rules from place `at` on, up to the parenthesis that closes them.
-pub fn read_rules(text: &[u8], at: usize, table: &[u16], pack: &mut Pack) -> Result<Counts, Refusal>
+pub fn read_rules(text: &[u8], at: usize, table: &Table, pack: &mut Pack) -> Result<Counts, Refusal>
     requires { RulesGiven text.now at table.now pack.old.arities pack.old.starts pack.old.nodes }
     ensures { (vs : List Name) (rs : List TextRule) → VariablesKept text.now table.now vs → RulesStand text.now at vs rs → RulesTold (rules_numbered vs 0 rs none_yet) rs result pack.new.arities pack.new.starts pack.new.nodes }
 {

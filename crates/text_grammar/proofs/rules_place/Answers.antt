@@ -1,5 +1,4 @@
 -- `text_grammar::rules_place` meets its contract: the word and the variables, then the rules behind them.
-use native.Mathlib.Omega.{arith}
 use Rattle.texts.specs.Spelling.{VAR}
 use Rattle.std.proofs.lemmas.Result.{err_from_is_err_and}
 use Rattle.text_grammar.proofs.Sections.{place_told, later, names_told, table_empty, no_variables, bad_variables, text_told}
@@ -9,11 +8,6 @@ pub returns-in_err-a : goal.returns-in_err-a
 returns-in_err-a c =
     let p = err_from_is_err_and c.from_residual.result c.from_residual.ensures.1 in
     rw (p.1, p.2) (no_variables _ _ _ c.in_err-a.ensures)
-
-pub overflow_cast-table : goal.overflow_cast-table
-overflow_cast-table c =
-    let found = place_told _ _ _ c.in_ok-a.ensures in
-    omega (arith, found.1, c.requires.text_short)
 
 pub read_variables-requires : goal.read_variables-requires
 read_variables-requires c =

@@ -1,15 +1,14 @@
 -- `text_names::read_variables` meets its contract. The loop's invariant: the names before place i are read, and the table holds them.
-use mathlib.Core.Path.{refl, ◌∙◌}
 use native.Mathlib.Omega.{arith}
 use Rattle.text_tokens.specs.Told.{Named, Told}
 use Rattle.text_names.proofs.Listing.{after_other, read_none, read_more, read_closed, read_refused}
 use Rattle.text_names.proofs.read_variables.Goals as goal
 
 pub loop-s-init : goal.loop-s-init
-loop-s-init c = (refl, read_none _ _ _ c.requires)
+loop-s-init c = read_none _ _ _ c.requires
 
 pub next_token-requires : goal.next_token-requires
-next_token-requires c = record { within = c.loop-s.invariant.1.within; text_short = c.requires.text_short }
+next_token-requires c = record { within = c.loop-s.invariant.within; text_short = c.requires.text_short }
 
 pub keep-requires : goal.keep-requires
 unfolding Told
@@ -23,10 +22,10 @@ keep-requires c =
       text_short = q.text_short;
       within = omega (arith, m.some, m.moves.within);
       from = m.from;
-      later = omega (arith, q.later, l.invariant.1.past);
-      names = l.invariant.1.names;
+      later = omega (arith, q.later, l.invariant.past);
+      names = l.invariant.names;
       list = _;
-      holds = l.invariant.1.holds;
+      holds = l.invariant.holds;
     }
 
 pub loop-s-smaller : goal.loop-s-smaller
@@ -42,15 +41,15 @@ loop-s-preserved c =
     let named : let l = c.loop-s in
     Named c.args.text.now l.i c.in-Name.s c.in-Name.e = c.in-Name.ensures in
     let l = c.loop-s in
-    (c.keep.auto.table ∙ l.invariant.0, read_more _ _ l.table l.i l.invariant.1 _ _ named _ c.keep.ensures)
+    read_more _ _ l.table l.i l.invariant _ _ named _ c.keep.ensures
 
 pub returns-in-Close : goal.returns-in-Close
 unfolding Told
 returns-in-Close c =
     let l = c.loop-s in
-    read_closed c.args.text.now _ _ l.i l.invariant.1 c.requires.text_short _ (c.in-Close.ensures)
+    read_closed c.args.text.now _ _ l.i l.invariant c.requires.text_short _ (c.in-Close.ensures)
 
 pub returns-in_default : goal.returns-in_default
 returns-in_default c =
     let l = c.loop-s in
-    read_refused _ _ _ l.i l.invariant.1 (after_other _ l.i _ c.next_token.ensures c.in_default.not-Name c.in_default.not-Close)
+    read_refused _ _ _ l.i l.invariant (after_other _ l.i _ c.next_token.ensures c.in_default.not-Name c.in_default.not-Close)

@@ -3,8 +3,8 @@ use mathlib.Core.Path.{sym, ◌∙◌}
 use Prim.Native.Nat.{ℕ, ◌+◌, ◌/◌, ◌≤◌, ◌<◌}
 use native.Mathlib.Omega.{arith}
 use lib.ListN.{get_or}
-use Rattle.text_names.specs.Table.{most_kept, first_kept, count, kept}
-use Rattle.text_names.proofs.Table.{less_up_to, not_from}
+use Rattle.text_names.specs.Table.{most_kept, kept}
+use Rattle.text_names.proofs.KeptNames.{less_up_to, not_from}
 use Rattle.text_names.proofs.search.Goals as goal
 
 pub loop-lo-init : goal.loop-lo-init
@@ -12,11 +12,6 @@ loop-lo-init c = (omega arith, omega arith, λ i h. absurd (omega arith), λ i p
 
 pub overflow_add-m : goal.overflow_add-m
 overflow_add-m c =
-    let few : c.loop-lo.hi ≤ most_kept = omega (arith, c.loop-lo.invariant.1, c.requires.rising.few) in
-    omega (arith, few, c.loop-lo-test.true)
-
-pub overflow_add-m-in-loop-lo : goal.overflow_add-m-in-loop-lo
-overflow_add-m-in-loop-lo c =
     let few : c.loop-lo.hi ≤ most_kept = omega (arith, c.loop-lo.invariant.1, c.requires.rising.few) in
     omega (arith, few, c.loop-lo-test.true)
 
@@ -29,13 +24,13 @@ pub bounds-table-m : goal.bounds-table-m
 bounds-table-m c =
     let few : c.loop-lo.hi ≤ most_kept = omega (arith, c.loop-lo.invariant.1, c.requires.rising.few) in
     let middle : ℕ = (c.loop-lo.lo + c.loop-lo.hi) / 2 in
-    let within : middle < count c.args.table.now = omega (arith, c.loop-lo-test.true, c.loop-lo.invariant.1) in
-    omega (arith, within, few, c.requires.rising.few, c.requires.rising.long)
+    let within : middle < c.args.table.now.count = omega (arith, c.loop-lo-test.true, c.loop-lo.invariant.1) in
+    omega (arith, within, few, c.requires.rising.few)
 
 pub less_name-requires : goal.less_name-requires
 less_name-requires c =
     let middle : ℕ = (c.loop-lo.lo + c.loop-lo.hi) / 2 in
-    let small : get_or c.args.table.now (first_kept + middle) 0 < 65536 = omega (arith, c.shared_slice_known-in-loop-lo-1.given (first_kept + middle)) in
+    let small : get_or c.args.table.now.names middle 0 < 65536 = omega (arith, c.type_inv.table) in
     let q = c.requires in
     record { text_short = q.text_short; left_small = omega (arith, small); right_small = omega (arith, q.within, q.text_short) }
 
@@ -51,7 +46,7 @@ pub loop-lo-preserved-then-less_name : goal.loop-lo-preserved-then-less_name
 unfolding kept
 loop-lo-preserved-then-less_name c =
     let middle : ℕ = (c.loop-lo.lo + c.loop-lo.hi) / 2 in
-    let within : middle < count c.args.table.now = omega (arith, c.loop-lo-test.true, c.loop-lo.invariant.1) in
+    let within : middle < c.args.table.now.count = omega (arith, c.loop-lo-test.true, c.loop-lo.invariant.1) in
     let l = c.loop-lo in
     let is = c.from.ensures in
     let q = c.requires in (
@@ -68,7 +63,7 @@ pub loop-lo-preserved : goal.loop-lo-preserved
 unfolding kept
 loop-lo-preserved c =
     let middle : ℕ = (c.loop-lo.lo + c.loop-lo.hi) / 2 in
-    let within : middle < count c.args.table.now = omega (arith, c.loop-lo-test.true, c.loop-lo.invariant.1) in
+    let within : middle < c.args.table.now.count = omega (arith, c.loop-lo-test.true, c.loop-lo.invariant.1) in
     let l = c.loop-lo in
     let is = c.from.ensures in
     let q = c.requires in (

@@ -12,7 +12,7 @@ use Rattle.pack_reader.specs.declared.Pack.{Pack}
 use Rattle.text_reader.specs.declared.rules.Counts.{Counts}
 use Rattle.pack_reader.specs.Stored.{Room as KeptRoom}
 use Rattle.text_reader.specs.Tables.{RefusedWith, TextTold, PackTold}
-use Rattle.text_reader.proofs.FromText.{too_long, grammar_asked, rules_given, text_refused, text_read}
+use Rattle.text_reader.proofs.FromText.{too_long, rules_given, text_refused, text_read}
 use Rattle.text_reader.proofs.read_text.Goals as goal
 
 -- what the arrays tell is told of the pack
@@ -30,7 +30,7 @@ pub returns-then-text-gt-MOST_TEXT_BYTES : goal.returns-then-text-gt-MOST_TEXT_B
 returns-then-text-gt-MOST_TEXT_BYTES c = refuses _ _ _ _ _ _ _ refl (too_long _ [] [] [] c.if-text-gt-MOST_TEXT_BYTES.true)
 
 pub rules_place-requires : goal.rules_place-requires
-rules_place-requires c = grammar_asked _ c.if-text-gt-MOST_TEXT_BYTES.false
+rules_place-requires c = record { text_short = c.if-text-gt-MOST_TEXT_BYTES.false; free = c.new-table.ensures }
 
 pub returns-in_err-at : goal.returns-in_err-at
 returns-in_err-at c =

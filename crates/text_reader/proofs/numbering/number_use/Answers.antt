@@ -7,13 +7,14 @@ use borrow.Author.Rules.{rules}
 use Rattle.packs.specs.PackReading.{most_symbols, variable_count}
 use Rattle.text_tokens.specs.Told.{name_at}
 use Rattle.text_names.specs.Table.{hash, hashes}
+use Rattle.text_names.specs.declared.Table.{Table}
 use Rattle.text_reader.specs.declared.numbering.Seen.{Seen}
 use Rattle.text_reader.specs.Tables.{NameGiven, UseAsked, a_use, NumberingGoes}
 use Rattle.text_reader.proofs.UseSteps.{is_variable, is_symbol, variable_small, variable_good, variable_told, variable_over, symbol_small, symbol_good, symbol_told, symbol_refused}
 use Rattle.text_reader.proofs.numbering.number_use.Goals as goal
 
 -- a name to number, with its hash
-given : {text table symbols arities variables nodes : List ℕ} {s count h : ℕ} {seen : Seen} → UseAsked text table s count symbols arities variables nodes seen
+given : {text : List ℕ} {table : Table} {symbols arities variables nodes : List ℕ} {s count h : ℕ} {seen : Seen} → UseAsked text table s count symbols arities variables nodes seen
     → (h ≡ hash (name_at text s)) × (h < hashes) → NameGiven text s h
 given q h = record { text_short = q.kept.text_short; within = q.within; hash_is = h.0; hash_small = h.1 }
 
