@@ -5,11 +5,11 @@ mod steps;
 ghost use Rattle.rewriting.specs.Terms.{System};
 ghost use Rattle.records.specs.Records.{all_records};
 ghost use Rattle.records.specs.Order.{components_start};
-ghost use Rattle.pack_reader.specs.Stored.{KeptIn};
+ghost use Rattle.pack_reader.specs.Stored.{Stored};
 ghost use Rattle.certificates.specs.CertificateReading.{components_from};
 ghost use Rattle.certificate_reader.specs.Working.{CertificateRead, ReadingAsked};
 
-use pack_reader::Pack;
+use pack_reader::PackView;
 use records::Refusal;
 use records::order::{Before, End};
 
@@ -30,9 +30,9 @@ pub struct State {
 }
 
 // Reads the components in a certificate of a pack that was read. Answers how many there are.
-pub fn read_components(certificate: &[u8], pack: &Pack) -> Result<usize, Refusal>
-    requires { ReadingAsked certificate.now pack.now.symbols pack.now.rules pack.now.arities pack.now.starts pack.now.nodes pack.now.defined }
-    ensures { (p : System) → KeptIn p pack.now → CertificateRead (components_from p components_start (all_records certificate.now)) result }
+pub fn read_components(certificate: &[u8], pack: &PackView) -> Result<usize, Refusal>
+    requires { ReadingAsked certificate.now pack.now.symbols pack.now.rules pack.now.arities.now pack.now.starts.now pack.now.nodes.now pack.now.defined.now }
+    ensures { (p : System) → Stored p pack.now.symbols pack.now.rules pack.now.arities.now pack.now.starts.now pack.now.nodes.now pack.now.defined.now → CertificateRead (components_from p components_start (all_records certificate.now)) result }
 {
     let n = certificate.len() / 8;
     let mut s = State {

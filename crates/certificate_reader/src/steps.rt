@@ -3,14 +3,14 @@ ghost use Rattle.std.specs.Prelude.{◌≡◌, ◌&&◌, List, ℕ, ◌≤◌, �
 ghost use Rattle.std.proofs.Math.Option.{some};
 ghost use Rattle.rewriting.specs.Terms.{System};
 ghost use Rattle.records.specs.Order.{c_component, p_pair, w_weight, m_marked, l_weighting};
-ghost use Rattle.pack_reader.specs.Stored.{KeptIn};
+ghost use Rattle.pack_reader.specs.Stored.{Stored};
 ghost use Rattle.pair_finder.specs.Walking.{is_defined};
 ghost use Rattle.certificates.specs.Components.{Component, first_weighting};
 ghost use Rattle.certificates.specs.CertificateReading.{CertificateReading, cert_step, component_read, pair_read, weight_read, marked_read, weighting_read};
 ghost use Rattle.certificate_reader.specs.Working.{Mirrors, StepsAs, KeyIs, SteppedAs, PairAsked, PlaceAsked, MarkedPlaceAsked, WeightAsked, MarkedAsked, WeightingAsked, StepAsked};
 
 use crate::State;
-use pack_reader::Pack;
+use pack_reader::PackView;
 use records::order::Before;
 use records::{Record, Refusal};
 use terms::{Marked, Symbol};
@@ -80,9 +80,9 @@ fn component(r: Record, s: State) -> Result<State, Refusal>
 }
 
 // P: a rule and a place, rising; 7 where they name no pair.
-fn pair(r: Record, s: State, pack: &Pack) -> Result<State, Refusal>
-    requires { PairAsked s pack.now.rules pack.now.starts pack.now.nodes pack.now.defined }
-    ensures { SteppedAs s result ((p : System) (x : CertificateReading) (c : Component) → KeptIn p pack.now → Mirrors s x → x.begun ≡ some c → r.kind ≡ p_pair → StepsAs (pair_read p r x c) result) }
+fn pair(r: Record, s: State, pack: &PackView) -> Result<State, Refusal>
+    requires { PairAsked s pack.now.rules pack.now.starts.now pack.now.nodes.now pack.now.defined.now }
+    ensures { SteppedAs s result ((p : System) (x : CertificateReading) (c : Component) → Stored p pack.now.symbols pack.now.rules pack.now.arities.now pack.now.starts.now pack.now.nodes.now pack.now.defined.now → Mirrors s x → x.begun ≡ some c → r.kind ≡ p_pair → StepsAs (pair_read p r x c) result) }
 {
     if r.one != 0 {
         return Err(Refusal::StrayRecord);
@@ -106,9 +106,9 @@ fn pair(r: Record, s: State, pack: &Pack) -> Result<State, Refusal>
 }
 
 // The symbol's constant, or one of its arguments.
-fn is_place(pack: &Pack, f: Symbol, i: u16) -> bool
-    requires { PlaceAsked pack.now.symbols pack.now.arities }
-    ensures { result ≡ (ltb f.0 pack.now.symbols && leb i (get_or pack.now.arities f.0 0)) }
+fn is_place(pack: &PackView, f: Symbol, i: u16) -> bool
+    requires { PlaceAsked pack.now.symbols pack.now.arities.now }
+    ensures { result ≡ (ltb f.0 pack.now.symbols && leb i (get_or pack.now.arities.now f.0 0)) }
 {
     let a = f.0 as usize;
     if pack.symbols <= a {
@@ -118,9 +118,9 @@ fn is_place(pack: &Pack, f: Symbol, i: u16) -> bool
 }
 
 // The same of a tuple symbol, which a defined symbol has.
-fn is_marked_place(pack: &Pack, f: Marked, i: u16) -> bool
-    requires { MarkedPlaceAsked pack.now.symbols pack.now.arities pack.now.defined }
-    ensures { result ≡ ((ltb f.0 pack.now.symbols && leb i (get_or pack.now.arities f.0 0)) && is_defined pack.now.defined f.0) }
+fn is_marked_place(pack: &PackView, f: Marked, i: u16) -> bool
+    requires { MarkedPlaceAsked pack.now.symbols pack.now.arities.now pack.now.defined.now }
+    ensures { result ≡ ((ltb f.0 pack.now.symbols && leb i (get_or pack.now.arities.now f.0 0)) && is_defined pack.now.defined.now f.0) }
 {
     if !is_place(pack, Symbol(f.0), i) {
         return false;
@@ -129,9 +129,9 @@ fn is_marked_place(pack: &Pack, f: Marked, i: u16) -> bool
 }
 
 // W: a symbol, a place of it and the value there.
-fn weight(r: Record, s: State, pack: &Pack) -> Result<State, Refusal>
-    requires { WeightAsked s pack.now.symbols pack.now.arities }
-    ensures { SteppedAs s result ((p : System) (x : CertificateReading) (c : Component) → KeptIn p pack.now → Mirrors s x → x.begun ≡ some c → s.due ≡ 0 → r.kind ≡ w_weight → StepsAs (weight_read p r x c) result) }
+fn weight(r: Record, s: State, pack: &PackView) -> Result<State, Refusal>
+    requires { WeightAsked s pack.now.symbols pack.now.arities.now }
+    ensures { SteppedAs s result ((p : System) (x : CertificateReading) (c : Component) → Stored p pack.now.symbols pack.now.rules pack.now.arities.now pack.now.starts.now pack.now.nodes.now pack.now.defined.now → Mirrors s x → x.begun ≡ some c → s.due ≡ 0 → r.kind ≡ w_weight → StepsAs (weight_read p r x c) result) }
 {
     if r.one != 0 {
         return Err(Refusal::StrayRecord);
@@ -152,9 +152,9 @@ fn weight(r: Record, s: State, pack: &Pack) -> Result<State, Refusal>
 }
 
 // M: the same of a tuple symbol.
-fn marked(r: Record, s: State, pack: &Pack) -> Result<State, Refusal>
-    requires { MarkedAsked s pack.now.symbols pack.now.arities pack.now.defined }
-    ensures { SteppedAs s result ((p : System) (x : CertificateReading) (c : Component) → KeptIn p pack.now → Mirrors s x → x.begun ≡ some c → s.due ≡ 0 → r.kind ≡ m_marked → StepsAs (marked_read p r x c) result) }
+fn marked(r: Record, s: State, pack: &PackView) -> Result<State, Refusal>
+    requires { MarkedAsked s pack.now.symbols pack.now.arities.now pack.now.defined.now }
+    ensures { SteppedAs s result ((p : System) (x : CertificateReading) (c : Component) → Stored p pack.now.symbols pack.now.rules pack.now.arities.now pack.now.starts.now pack.now.nodes.now pack.now.defined.now → Mirrors s x → x.begun ≡ some c → s.due ≡ 0 → r.kind ≡ m_marked → StepsAs (marked_read p r x c) result) }
 {
     if r.one != 0 {
         return Err(Refusal::StrayRecord);
@@ -206,9 +206,9 @@ fn weighting(r: Record, s: State) -> Result<State, Refusal>
 }
 
 // One record, of a kind that the table lets stand here.
-pub fn step(r: Record, s: State, pack: &Pack) -> Result<State, Refusal>
-    requires { StepAsked r s pack.now.symbols pack.now.rules pack.now.arities pack.now.starts pack.now.nodes pack.now.defined }
-    ensures { SteppedAs s result ((p : System) (x : CertificateReading) → KeptIn p pack.now → Mirrors s x → StepsAs (cert_step p r x) result) }
+pub fn step(r: Record, s: State, pack: &PackView) -> Result<State, Refusal>
+    requires { StepAsked r s pack.now.symbols pack.now.rules pack.now.arities.now pack.now.starts.now pack.now.nodes.now pack.now.defined.now }
+    ensures { SteppedAs s result ((p : System) (x : CertificateReading) → Stored p pack.now.symbols pack.now.rules pack.now.arities.now pack.now.starts.now pack.now.nodes.now pack.now.defined.now → Mirrors s x → StepsAs (cert_step p r x) result) }
 {
     if r.kind == b'C' {
         return component(r, s);

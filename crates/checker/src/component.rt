@@ -196,7 +196,8 @@ fn unweighted(certificate: &[u8], at: usize, pack: &Pack) -> Result<usize, Refus
     let r = records::record_at(certificate, 8 * (at + 1));
     let rule = usize::from(r.a);
     let right = usize::from(pack.starts[2 * rule + 1]) + usize::from(r.b);
-    if pair_finder::arcs::arc_from(pack, right, rule) {
+    let view = pack.view();
+    if pair_finder::arcs::arc_from(&view, right, rule) {
         return Err(Refusal::SelfArc);
     }
     Ok(at + 2)

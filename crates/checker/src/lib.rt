@@ -18,7 +18,8 @@ pub fn judge(certificate: &[u8], components: usize, pack: &Pack) -> Result<Store
     ensures { (j : Judgeable certificate.now components pack.now.rules pack.now.arities pack.now.starts pack.now.nodes pack.now.defined) → AllJudged j.kept.system j.all result }
 {
     let store = entries::keep(certificate);
-    partition::judge(certificate, store, components, pack)?;
+    let view = pack.view();
+    partition::judge(certificate, store, components, &view)?;
     let mut lefts = [0u8; MOST_PAIRS];
     component::judge_components(certificate, components, pack, &mut lefts)?;
     Ok(entries::tell(store, &lefts))

@@ -5,6 +5,7 @@ mod rules;
 pub mod sides;
 mod symbols;
 
+ghost use Rattle.std.specs.Prelude.{◌≡◌};
 ghost use Rattle.packs.specs.PackReading.{read_pack};
 ghost use Rattle.pack_reader.specs.Stored.{PackReadAs};
 
@@ -43,6 +44,31 @@ impl Pack {
             defined: [0; MOST_SYMBOLS],
         }
     }
+
+    // The pack to be looked at.
+    pub fn view(&self) -> PackView<'_>
+        ensures { (result.symbols ≡ self.now.symbols) × (result.rules ≡ self.now.rules) × (result.arities.now ≡ self.now.arities) × (result.starts.now ≡ self.now.starts) × (result.nodes.now ≡ self.now.nodes) × (result.defined.now ≡ self.now.defined) }
+    {
+        PackView {
+            symbols: self.symbols,
+            rules: self.rules,
+            arities: &self.arities,
+            starts: &self.starts,
+            nodes: &self.nodes,
+            defined: &self.defined,
+        }
+    }
+}
+
+// A pack as it is looked at, whatever the length of its arrays.
+#[derive(Clone, Copy)]
+pub struct PackView<'a> {
+    pub symbols: usize,
+    pub rules: usize,
+    pub arities: &'a [u8],
+    pub starts: &'a [u16],
+    pub nodes: &'a [u8],
+    pub defined: &'a [u8],
 }
 
 // Reads the pack that the file holds.

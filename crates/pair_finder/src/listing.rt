@@ -4,23 +4,24 @@ ghost use Rattle.terms.specs.Kept.{part, symbols_room};
 ghost use Rattle.pairs.specs.Listing.{a_pair, pair_bytes};
 ghost use Rattle.pair_finder.specs.Walking.{is_defined, places, first_pairs, Laid, Written};
 
-use pack_reader::Pack;
+use pack_reader::PackView;
 use records::Record;
 use terms::MOST_SYMBOLS;
 
 // The node applies a defined symbol.
 #[tactic(auto, unfolding(crate::specs::Walking::is_defined))]
-pub fn is_defined(pack: &Pack, code: u8) -> bool
-    ensures { result ≡ is_defined pack.now.defined code }
+pub fn is_defined(pack: &PackView, code: u8) -> bool
+    requires { length pack.now.defined.now ≡ symbols_room }
+    ensures { result ≡ is_defined pack.now.defined.now code }
 {
     let c = usize::from(code);
     c < MOST_SYMBOLS && pack.defined[c] == 1
 }
 
 // How many nodes of a side apply a defined symbol.
-fn count_in(pack: &Pack, from: usize, to: usize) -> usize
-    requires { (from ≤ to) × (to ≤ length pack.now.nodes) }
-    ensures { result ≡ length (places pack.now.defined 0 (part pack.now.nodes from to)) }
+fn count_in(pack: &PackView, from: usize, to: usize) -> usize
+    requires { (from ≤ to) × (to ≤ length pack.now.nodes.now) × (length pack.now.defined.now ≡ symbols_room) }
+    ensures { result ≡ length (places pack.now.defined.now 0 (part pack.now.nodes.now from to)) }
 {
     pack.nodes[from..to]
         .iter()
@@ -29,9 +30,9 @@ fn count_in(pack: &Pack, from: usize, to: usize) -> usize
 }
 
 // How many pairs there are.
-pub fn count_pairs(pack: &Pack) -> usize
-    requires { Laid pack.now.starts pack.now.nodes pack.now.rules }
-    ensures { result ≡ length (first_pairs pack.now.starts pack.now.nodes pack.now.defined pack.now.rules) }
+pub fn count_pairs(pack: &PackView) -> usize
+    requires { Laid pack.now.starts.now pack.now.nodes.now pack.now.rules × (length pack.now.defined.now ≡ symbols_room) }
+    ensures { result ≡ length (first_pairs pack.now.starts.now pack.now.nodes.now pack.now.defined.now pack.now.rules) }
 {
     let mut n = 0;
     for i in 0..pack.rules {
@@ -43,9 +44,16 @@ pub fn count_pairs(pack: &Pack) -> usize
 }
 
 // Writes the records of rule `rule`'s pairs from byte `at` on. Answers the byte after them.
-fn write_in(list: &mut [u8], at: usize, pack: &Pack, rule: usize, from: usize, to: usize) -> usize
-    requires { (rule < 64) × (from ≤ to) × (to ≤ from + 32) × (to ≤ length pack.now.nodes) × (at + 8 * length (places pack.now.defined 0 (part pack.now.nodes from to)) ≤ length list.old) }
-    ensures { Written at (map (a_pair rule) (places pack.now.defined 0 (part pack.now.nodes from to))) result list.old list.new }
+fn write_in(
+    list: &mut [u8],
+    at: usize,
+    pack: &PackView,
+    rule: usize,
+    from: usize,
+    to: usize,
+) -> usize
+    requires { (rule < 64) × (from ≤ to) × (to ≤ from + 32) × (to ≤ length pack.now.nodes.now) × (length pack.now.defined.now ≡ symbols_room) × (at + 8 * length (places pack.now.defined.now 0 (part pack.now.nodes.now from to)) ≤ length list.old) }
+    ensures { Written at (map (a_pair rule) (places pack.now.defined.now 0 (part pack.now.nodes.now from to))) result list.old list.new }
 {
     let mut next = at;
     for i in from..to {
@@ -68,9 +76,9 @@ fn write_in(list: &mut [u8], at: usize, pack: &Pack, rule: usize, from: usize, t
 }
 
 // Writes all records.
-pub fn write_pairs(list: &mut [u8], pack: &Pack)
-    requires { Laid pack.now.starts pack.now.nodes pack.now.rules × (8 * length (first_pairs pack.now.starts pack.now.nodes pack.now.defined pack.now.rules) ≤ length list.old) }
-    ensures { list.new ≡ pair_bytes (first_pairs pack.now.starts pack.now.nodes pack.now.defined pack.now.rules) ++ drop (8 * length (first_pairs pack.now.starts pack.now.nodes pack.now.defined pack.now.rules)) list.old }
+pub fn write_pairs(list: &mut [u8], pack: &PackView)
+    requires { Laid pack.now.starts.now pack.now.nodes.now pack.now.rules × (length pack.now.defined.now ≡ symbols_room) × (8 * length (first_pairs pack.now.starts.now pack.now.nodes.now pack.now.defined.now pack.now.rules) ≤ length list.old) }
+    ensures { list.new ≡ pair_bytes (first_pairs pack.now.starts.now pack.now.nodes.now pack.now.defined.now pack.now.rules) ++ drop (8 * length (first_pairs pack.now.starts.now pack.now.nodes.now pack.now.defined.now pack.now.rules)) list.old }
 {
     let mut at = 0;
     for i in 0..pack.rules {

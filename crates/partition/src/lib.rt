@@ -4,7 +4,7 @@ ghost use Rattle.std.specs.Prelude.{◌≡◌, ◌<◌, ◌≤◌, length};
 ghost use Rattle.partition.specs.Working.{slot, back_to, back_at, Keys, Roots, Lowered, NotedEntry, KeysAsked, BackAsked, SearchAsked, SearchAnswer, BackAskedOf, Judgeable, OrderingAsked, OrderedAs};
 
 use entries::{Entry, Store};
-use pack_reader::{MOST_NODES, MOST_RULES, Pack};
+use pack_reader::{MOST_NODES, MOST_RULES, PackView};
 use records::{MOST_PAIRS, Refusal};
 use terms::MOST_SYMBOLS;
 
@@ -31,9 +31,9 @@ fn note(e: Entry, lows: &mut [u16], seen: &mut [bool]) -> bool
 }
 
 // The root of each rule's left side and the rule's lowest component, as one number.
-fn keep_keys(pack: &Pack, lows: &[u16], keys: &mut [u32])
-    requires { KeysAsked pack.now.rules pack.now.starts pack.now.nodes lows.now keys.old }
-    ensures { Keys pack.now.rules pack.now.starts pack.now.nodes lows.now keys.new }
+fn keep_keys(pack: &PackView, lows: &[u16], keys: &mut [u32])
+    requires { KeysAsked pack.now.rules pack.now.starts.now pack.now.nodes.now lows.now keys.old }
+    ensures { Keys pack.now.rules pack.now.starts.now pack.now.nodes.now lows.now keys.new }
 {
     for s in 0..pack.rules {
         let at = usize::from(pack.starts[2 * s]);
@@ -42,9 +42,9 @@ fn keep_keys(pack: &Pack, lows: &[u16], keys: &mut [u32])
 }
 
 // The lowest component of the rules with each root.
-fn lowest_of_roots(pack: &Pack, lows: &[u16], roots: &mut [u16])
-    requires { KeysAsked pack.now.rules pack.now.starts pack.now.nodes lows.now roots.old }
-    ensures { Roots pack.now.rules pack.now.starts pack.now.nodes lows.now roots.new }
+fn lowest_of_roots(pack: &PackView, lows: &[u16], roots: &mut [u16])
+    requires { KeysAsked pack.now.rules pack.now.starts.now pack.now.nodes.now lows.now roots.old }
+    ensures { Roots pack.now.rules pack.now.starts.now pack.now.nodes.now lows.now roots.new }
 {
     for s in 0..pack.rules {
         let at = usize::from(pack.starts[2 * s]);
@@ -55,15 +55,15 @@ fn lowest_of_roots(pack: &Pack, lows: &[u16], roots: &mut [u16])
 // The next rule from `first` on with a pair in a component below `own` to which document 01's arc leads from the pair whose right
 // side is kept from `right` to `end`; no arc leads back to a rule before it.
 fn reached_from(
-    pack: &Pack,
+    pack: &PackView,
     keys: &[u32],
     right: usize,
     end: usize,
     own: u16,
     first: usize,
 ) -> Option<usize>
-    requires { SearchAsked pack.now.rules pack.now.arities pack.now.starts pack.now.nodes pack.now.defined keys.now right end × (first ≤ pack.now.rules) }
-    ensures { (a : SearchAsked pack.now.rules pack.now.arities pack.now.starts pack.now.nodes pack.now.defined keys.now right end) → SearchAnswer a.asked.kept.system a.asked.lows own a.asked.pair pack.now.rules first result }
+    requires { SearchAsked pack.now.rules pack.now.arities.now pack.now.starts.now pack.now.nodes.now pack.now.defined.now keys.now right end × (first ≤ pack.now.rules) }
+    ensures { (a : SearchAsked pack.now.rules pack.now.arities.now pack.now.starts.now pack.now.nodes.now pack.now.defined.now keys.now right end) → SearchAnswer a.asked.kept.system a.asked.lows own a.asked.pair pack.now.rules first result }
 {
     let from = 65536 * u32::from(pack.nodes[right]);
     for s in first..pack.rules {
@@ -78,15 +78,15 @@ fn reached_from(
 }
 
 // An arc leads from the pair whose right side is kept at `right` to a rule with a pair in a component below `own`.
-fn back_from(pack: &Pack, keys: &[u32], roots: &[u16], right: usize, own: u16) -> bool
-    requires { BackAsked pack.now.rules pack.now.arities pack.now.starts pack.now.nodes pack.now.defined keys.now roots.now right }
-    ensures { (a : BackAsked pack.now.rules pack.now.arities pack.now.starts pack.now.nodes pack.now.defined keys.now roots.now right) → result ≡ back_to a.kept.system a.lows own a.pair pack.now.rules }
+fn back_from(pack: &PackView, keys: &[u32], roots: &[u16], right: usize, own: u16) -> bool
+    requires { BackAsked pack.now.rules pack.now.arities.now pack.now.starts.now pack.now.nodes.now pack.now.defined.now keys.now roots.now right }
+    ensures { (a : BackAsked pack.now.rules pack.now.arities.now pack.now.starts.now pack.now.nodes.now pack.now.defined.now keys.now roots.now right) → result ≡ back_to a.kept.system a.lows own a.pair pack.now.rules }
 {
     // No rule with this root has a lower component.
     if own <= roots[usize::from(pack.nodes[right])] {
         return false;
     }
-    let end = terms::skip(&pack.arities, &pack.nodes, right);
+    let end = terms::skip(pack.arities, pack.nodes, right);
     let mut s = 0;
     while let Some(reached) = reached_from(pack, keys, right, end, own, s) {
         if pair_finder::arcs::agrees_to(pack, right, end, reached) {
@@ -98,9 +98,9 @@ fn back_from(pack: &Pack, keys: &[u32], roots: &[u16], right: usize, own: u16) -
 }
 
 // The same from the pair of an entry.
-fn back_from_entry(e: Entry, pack: &Pack, keys: &[u32], roots: &[u16]) -> bool
-    requires { BackAskedOf e pack.now.rules pack.now.arities pack.now.starts pack.now.nodes pack.now.defined keys.now roots.now }
-    ensures { (a : BackAskedOf e pack.now.rules pack.now.arities pack.now.starts pack.now.nodes pack.now.defined keys.now roots.now) → result ≡ back_at a.kept.system a.lows pack.now.rules e }
+fn back_from_entry(e: Entry, pack: &PackView, keys: &[u32], roots: &[u16]) -> bool
+    requires { BackAskedOf e pack.now.rules pack.now.arities.now pack.now.starts.now pack.now.nodes.now pack.now.defined.now keys.now roots.now }
+    ensures { (a : BackAskedOf e pack.now.rules pack.now.arities.now pack.now.starts.now pack.now.nodes.now pack.now.defined.now keys.now roots.now) → result ≡ back_at a.kept.system a.lows pack.now.rules e }
 {
     let right = usize::from(pack.starts[2 * usize::from(e.rule) + 1]) + usize::from(e.place);
     back_from(pack, keys, roots, right, e.component)
@@ -111,10 +111,10 @@ pub fn judge(
     certificate: &[u8],
     store: Store,
     components: usize,
-    pack: &Pack,
+    pack: &PackView,
 ) -> Result<(), Refusal>
-    requires { OrderingAsked certificate.now store components pack.now.rules pack.now.arities pack.now.starts pack.now.nodes pack.now.defined }
-    ensures { (j : Judgeable certificate.now components pack.now.rules pack.now.arities pack.now.starts pack.now.nodes pack.now.defined) → OrderedAs j.kept.system j.all result }
+    requires { OrderingAsked certificate.now store components pack.now.rules pack.now.arities.now pack.now.starts.now pack.now.nodes.now pack.now.defined.now }
+    ensures { (j : Judgeable certificate.now components pack.now.rules pack.now.arities.now pack.now.starts.now pack.now.nodes.now pack.now.defined.now) → OrderedAs j.kept.system j.all result }
 {
     let n = store.count;
     if n != pair_finder::listing::count_pairs(pack) {

@@ -49,11 +49,12 @@ pub fn list_pairs(pack: &[u8], list: &mut [u8]) -> Result<usize, Refusal>
 {
     let mut read = Pack::new();
     pack_reader::read_pack(pack, &mut read)?;
-    let n = pair_finder::listing::count_pairs(&read);
+    let view = read.view();
+    let n = pair_finder::listing::count_pairs(&view);
     if list.len() / 8 < n {
         return Err(Refusal::ShortList);
     }
-    pair_finder::listing::write_pairs(list, &read);
+    pair_finder::listing::write_pairs(list, &view);
     Ok(n)
 }
 
@@ -69,8 +70,9 @@ pub fn arc_runs(
 {
     let mut read = Pack::new();
     pack_reader::read_pack(pack, &mut read)?;
+    let view = read.view();
     kept::arc_kept(
-        &read,
+        &view,
         rule as usize,
         place as usize,
         other_rule as usize,

@@ -8,7 +8,6 @@ use Rattle.records.specs.Outcomes.{Outcome, refused, passed}
 use Rattle.terms.specs.Kept.{codes, nodes_room, starts_room, symbols_room}
 use Rattle.packs.specs.PackReading.{most_nodes, most_symbols, most_arity, most_rules, variable_count}
 use Rattle.pack_reader.specs.declared.Pack.{Pack}
-use Rattle.pack_reader.specs.Stored.{Room as KeptRoom}
 use Rattle.text_reader.specs.declared.rules.Counts.{Counts}
 use Rattle.pack_writer.specs.Writing.{Writable}
 use Rattle.texts.specs.Tokens.{Name, Token, most_text_bytes}
@@ -237,4 +236,4 @@ TextTold (passed p) r ar ss ns = (c : Counts) × (r ≡ Ok c) × Room ar ss ns �
 unfoldable pub PackTold : Outcome System → Result (Unit {0}) Refusal → Pack → Type 0
 PackTold (refused n) r k = (y : Refusal) × (r ≡ Err y) × (number_of y ≡ n)
 PackTold (passed p) r k =
-    (r ≡ Ok tt) × KeptRoom k × Writable p k.symbols k.rules k.arities k.starts k.nodes × (k.symbols ≤ most_symbols) × (k.rules ≤ most_rules)
+    (r ≡ Ok tt) × Room k.arities k.starts k.nodes × Writable p k.symbols k.rules k.arities k.starts k.nodes × (k.symbols ≤ most_symbols) × (k.rules ≤ most_rules)

@@ -10,4 +10,4 @@ use Rattle.certificate_reader.proofs.read_components.Given as goal
 
 abbrev pub invariant-loop-i : goal.invariant-loop-i
 invariant-loop-i l =
-    SoundState l.s × (l.s.number ≤ l.i) × (l.s.begun ≤ l.i) × ((p : System) → Stored p l.pack.symbols l.pack.rules l.pack.arities l.pack.starts l.pack.nodes l.pack.defined → Told p (all_records l.certificate) l.i l.s)
+    SoundState l.s × (l.s.number ≤ l.i) × (l.s.begun ≤ l.i) × ((p : System) → Stored p l.pack.symbols l.pack.rules l.pack.arities.now l.pack.starts.now l.pack.nodes.now l.pack.defined.now → Told p (all_records l.certificate) l.i l.s)

@@ -62,15 +62,20 @@ abbrev all_asked : {cert : List ℕ} {components rules : ℕ} {ar ss ns ms : Lis
     ordered j.kept.system j.all ≡ 0 → ComponentsAsked cert components rules ar ss ns ms (replicate 2048 0)
 all_asked j neither = components_asked j (few_pairs j neither) refl (all_zero 2048)
 
+pub judge-requires : goal.judge-requires
+judge-requires c =
+    rw (c.view-view.ensures.1, c.view-view.ensures.2, c.view-view.ensures.3, c.view-view.ensures.4, c.view-view.ensures.5)
+    (record { judgeable = c.requires; keeps = c.keep-store.ensures })
+
 pub returns-in_err-judge : goal.returns-in_err-judge
 unfolding JudgedAs
 returns-in_err-judge c =
     let p = err_from_is_err_and c.from_residual.result c.from_residual.ensures.1 in
     rw (p.1, p.2)
-    (λ j. record { numbered = sym (refused_stays _ _ _ (c.in_err-judge.ensures j)); told = λ s is. cc })
+    (λ j. record { numbered = sym (refused_stays _ _ _ ((rw (c.view-view.ensures.1, c.view-view.ensures.2, c.view-view.ensures.3, c.view-view.ensures.4, c.view-view.ensures.5) at c.in_err-judge.ensures) j)); told = λ s is. cc })
 
 pub judge_components-requires : goal.judge_components-requires
-judge_components-requires c = let j = c.requires in all_asked j (none_of_these _ _ _ (c.in_ok-judge.ensures j))
+judge_components-requires c = let j = c.requires in all_asked j (none_of_these _ _ _ ((rw (c.view-view.ensures.1, c.view-view.ensures.2, c.view-view.ensures.3, c.view-view.ensures.4, c.view-view.ensures.5) at c.in_ok-judge.ensures) j))
 
 pub returns-in_err-judge_components : goal.returns-in_err-judge_components
 unfolding JudgedAs
@@ -79,17 +84,17 @@ returns-in_err-judge_components c =
     let p = err_from_is_err_and c.from_residual-in_err-judge_components.result c.from_residual-in_err-judge_components.ensures.1 in
     rw (p.1, p.2)
     (λ j.
-    let neither = none_of_these _ _ _ (c.in_ok-judge.ensures j) in
+    let neither = none_of_these _ _ _ ((rw (c.view-view.ensures.1, c.view-view.ensures.2, c.view-view.ensures.3, c.view-view.ensures.4, c.view-view.ensures.5) at c.in_ok-judge.ensures) j) in
     record { numbered = c.in_err-judge_components.ensures.judged (all_asked j neither) ∙ sym (passed_on _ _ neither); told = λ s is. cc })
 
 pub tell-requires : goal.tell-requires
-tell-requires c = let j = c.requires in has_room j c.keep-store.ensures (few_pairs j (none_of_these _ _ _ (c.in_ok-judge.ensures j)))
+tell-requires c = let j = c.requires in has_room j c.keep-store.ensures (few_pairs j (none_of_these _ _ _ ((rw (c.view-view.ensures.1, c.view-view.ensures.2, c.view-view.ensures.3, c.view-view.ensures.4, c.view-view.ensures.5) at c.in_ok-judge.ensures) j)))
 
 pub returns : goal.returns
 unfolding JudgedAs
 returns c =
     λ j.
-    let neither = none_of_these _ _ _ (c.in_ok-judge.ensures j) in
+    let neither = none_of_these _ _ _ ((rw (c.view-view.ensures.1, c.view-view.ensures.2, c.view-view.ensures.3, c.view-view.ensures.4, c.view-view.ensures.5) at c.in_ok-judge.ensures) j) in
     let judged_all = c.in_ok-judge_components.ensures in
     let number : 0 ≡ components_refusal j.kept.system (plain j.kept.system) j.all = judged_all.judged (all_asked j neither) in
     record {

@@ -5,7 +5,7 @@ use Rattle.partition.proofs.back_from.Given as goal
 
 abbrev pub invariant-loop-reached : goal.invariant-loop-reached
 invariant-loop-reached l =
-    (l.s ≤ l.pack.rules) × ((a : BackAsked l.pack.rules l.pack.arities l.pack.starts l.pack.nodes l.pack.defined l.keys l.roots l.right) → back_to a.kept.system a.lows l.own a.pair l.s ≡ false)
+    (l.s ≤ l.pack.rules) × ((a : BackAsked l.pack.rules l.pack.arities.now l.pack.starts.now l.pack.nodes.now l.pack.defined.now l.keys l.roots l.right) → back_to a.kept.system a.lows l.own a.pair l.s ≡ false)
 
 abbrev pub decreases-loop-reached : goal.decreases-loop-reached
 decreases-loop-reached l = l.pack.rules - l.s

@@ -138,7 +138,7 @@ returns-then-back_from_entry c =
     let counts = c.count_pairs.ensures in
     let past_all : length es ≤ c.loop-e.e-index = omega (arith, many _ c.requires, c.loop-e-test.false) in
     let lows = c.loop-e.lows in
-    let keyed : Keyed a.pack.now.rules a.pack.now.starts a.pack.now.nodes lows c.keep_keys.new.keys c.lowest_of_roots.new.roots =
+    let keyed : Keyed a.pack.now.rules a.pack.now.starts.now a.pack.now.nodes.now lows c.keep_keys.new.keys c.lowest_of_roots.new.roots =
     record { keys_are = c.keep_keys.ensures; roots_are = c.lowest_of_roots.ensures } in
     let l = c.loop-e-2 in
     let h = in_kept _ c.requires c.if-n-count_pairs.false c.count_pairs.ensures _ c.loop-e-2-test.true in
@@ -168,7 +168,7 @@ returns c =
     let es = of_certificate a.certificate.now in
     let past_all : length es ≤ c.loop-e.e-index = omega (arith, many _ c.requires, c.loop-e-test.false) in
     let lows = c.loop-e.lows in
-    let keyed : Keyed a.pack.now.rules a.pack.now.starts a.pack.now.nodes lows c.keep_keys.new.keys c.lowest_of_roots.new.roots =
+    let keyed : Keyed a.pack.now.rules a.pack.now.starts.now a.pack.now.nodes.now lows c.keep_keys.new.keys c.lowest_of_roots.new.roots =
     record { keys_are = c.keep_keys.ensures; roots_are = c.lowest_of_roots.ensures } in
     let l = c.loop-e-2 in
     let past : length es ≤ l.e-index = omega (arith, many _ c.requires, c.loop-e-2-test.false) in

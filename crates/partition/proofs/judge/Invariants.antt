@@ -17,5 +17,5 @@ invariant-loop-e l = (l.e-index ≤ l.n) × Noted (of_certificate l.certificate)
 abbrev pub invariant-loop-e-2 : goal.invariant-loop-e-2
 invariant-loop-e-2 l =
     (l.e-index ≤ l.n)
-    × ((j : Judgeable l.certificate l.components l.pack.rules l.pack.arities l.pack.starts l.pack.nodes l.pack.defined) (lows : List ℕ) → Keyed l.pack.rules l.pack.starts l.pack.nodes lows l.keys l.roots →
+    × ((j : Judgeable l.certificate l.components l.pack.rules l.pack.arities.now l.pack.starts.now l.pack.nodes.now l.pack.defined.now) (lows : List ℕ) → Keyed l.pack.rules l.pack.starts.now l.pack.nodes.now lows l.keys l.roots →
     any_back j.kept.system lows l.pack.rules (drop l.e-index (of_certificate l.certificate)) ≡ any_back j.kept.system lows l.pack.rules (of_certificate l.certificate))

@@ -25,7 +25,7 @@ pub loop-s-preserved : goal.loop-s-preserved
 loop-s-preserved c =
     let l = c.loop-s in
     let a = c.args in
-    (omega arith, more_roots a.pack.now.starts a.pack.now.nodes a.lows.now l.s l.roots _ l.invariant.1 (rw (c.from.ensures, c.from-at.ensures) at c.lower.ensures))
+    (omega arith, more_roots a.pack.now.starts.now a.pack.now.nodes.now a.lows.now l.s l.roots _ l.invariant.1 (rw (c.from.ensures, c.from-at.ensures) at c.lower.ensures))
 
 pub returns : goal.returns
 returns c =

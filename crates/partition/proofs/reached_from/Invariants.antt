@@ -6,5 +6,5 @@ use Rattle.partition.proofs.reached_from.Given as goal
 abbrev pub invariant-loop-s : goal.invariant-loop-s
 invariant-loop-s l =
     (l.first ≤ l.s) × (l.s ≤ l.pack.rules)
-    × ((a : SearchAsked l.pack.rules l.pack.arities l.pack.starts l.pack.nodes l.pack.defined l.keys l.right l.end) →
+    × ((a : SearchAsked l.pack.rules l.pack.arities.now l.pack.starts.now l.pack.nodes.now l.pack.defined.now l.keys l.right l.end) →
     back_to a.asked.kept.system a.asked.lows l.own a.asked.pair l.first ≡ false → back_to a.asked.kept.system a.asked.lows l.own a.asked.pair l.s ≡ false)

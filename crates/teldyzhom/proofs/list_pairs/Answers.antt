@@ -16,31 +16,33 @@ returns-in_err-read_pack-clause-leaves c = (lists_refused _ c.args.list.now _ (p
 pub count_pairs-n-requires : goal.count_pairs-n-requires
 count_pairs-n-requires c =
     let k = pack_kept _ _ _ c.in_ok-read_pack.ensures in
-    stored_laid _ _ _ _ _ _ _ k.stored k.room.starts_long
+    rw (c.view-view.ensures.1, c.view-view.ensures.3, c.view-view.ensures.4, c.view-view.ensures.5) (stored_laid _ _ _ _ _ _ _ k.stored k.room.starts_long, k.room.flags_long)
 
 pub write_pairs-requires : goal.write_pairs-requires
 write_pairs-requires c =
-    let k = pack_kept _ _ _ c.in_ok-read_pack.ensures in (
+    let k = pack_kept _ _ _ c.in_ok-read_pack.ensures in
+    rw (c.view-view.ensures.1, c.view-view.ensures.3, c.view-view.ensures.4, c.view-view.ensures.5) (
       stored_laid _ _ _ _ _ _ _ k.stored k.room.starts_long,
-      room_enough _ _ k c.args.list.now _ c.count_pairs-n.ensures c.if-list-n.false,
+      k.room.flags_long,
+      room_enough _ _ k c.args.list.now _ (rw (c.view-view.ensures.1, c.view-view.ensures.3, c.view-view.ensures.4, c.view-view.ensures.5) at c.count_pairs-n.ensures) c.if-list-n.false,
     )
 
 pub returns-then-list-n-clause-says : goal.returns-then-list-n-clause-says
 unfolding Lists
 returns-then-list-n-clause-says c =
-    (lists_short _ _ (pack_kept _ _ _ c.in_ok-read_pack.ensures) c.args.list.now _ c.count_pairs-n.ensures c.if-list-n.true).0
+    (lists_short _ _ (pack_kept _ _ _ c.in_ok-read_pack.ensures) c.args.list.now _ (rw (c.view-view.ensures.1, c.view-view.ensures.3, c.view-view.ensures.4, c.view-view.ensures.5) at c.count_pairs-n.ensures) c.if-list-n.true).0
 
 pub returns-then-list-n-clause-leaves : goal.returns-then-list-n-clause-leaves
 unfolding Lists
 returns-then-list-n-clause-leaves c =
-    (lists_short _ _ (pack_kept _ _ _ c.in_ok-read_pack.ensures) c.args.list.now _ c.count_pairs-n.ensures c.if-list-n.true).1
+    (lists_short _ _ (pack_kept _ _ _ c.in_ok-read_pack.ensures) c.args.list.now _ (rw (c.view-view.ensures.1, c.view-view.ensures.3, c.view-view.ensures.4, c.view-view.ensures.5) at c.count_pairs-n.ensures) c.if-list-n.true).1
 
 pub returns-clause-says : goal.returns-clause-says
 unfolding Lists
 returns-clause-says c =
-    (lists_all _ _ (pack_kept _ _ _ c.in_ok-read_pack.ensures) c.args.list.now _ c.count_pairs-n.ensures c.if-list-n.false _ c.write_pairs.ensures).0
+    (lists_all _ _ (pack_kept _ _ _ c.in_ok-read_pack.ensures) c.args.list.now _ (rw (c.view-view.ensures.1, c.view-view.ensures.3, c.view-view.ensures.4, c.view-view.ensures.5) at c.count_pairs-n.ensures) c.if-list-n.false _ (rw (c.view-view.ensures.1, c.view-view.ensures.3, c.view-view.ensures.4, c.view-view.ensures.5) at c.write_pairs.ensures)).0
 
 pub returns-clause-leaves : goal.returns-clause-leaves
 unfolding Lists
 returns-clause-leaves c =
-    (lists_all _ _ (pack_kept _ _ _ c.in_ok-read_pack.ensures) c.args.list.now _ c.count_pairs-n.ensures c.if-list-n.false _ c.write_pairs.ensures).1
+    (lists_all _ _ (pack_kept _ _ _ c.in_ok-read_pack.ensures) c.args.list.now _ (rw (c.view-view.ensures.1, c.view-view.ensures.3, c.view-view.ensures.4, c.view-view.ensures.5) at c.count_pairs-n.ensures) c.if-list-n.false _ (rw (c.view-view.ensures.1, c.view-view.ensures.3, c.view-view.ensures.4, c.view-view.ensures.5) at c.write_pairs.ensures)).1

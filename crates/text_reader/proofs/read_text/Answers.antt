@@ -10,7 +10,6 @@ use Rattle.records.specs.Outcomes.{Outcome, refused, passed}
 use Rattle.records.proofs.Outcomes.{handed_on}
 use Rattle.pack_reader.specs.declared.Pack.{Pack}
 use Rattle.text_reader.specs.declared.rules.Counts.{Counts}
-use Rattle.pack_reader.specs.Stored.{Room as KeptRoom}
 use Rattle.text_reader.specs.Tables.{RefusedWith, TextTold, PackTold}
 use Rattle.text_reader.proofs.FromText.{too_long, rules_given, text_refused, text_read}
 use Rattle.text_reader.proofs.read_text.Goals as goal
@@ -21,10 +20,10 @@ unfolding TextTold PackTold RefusedWith
 refuses (refused n) r x ar ss ns k e (y, f, h) = let same : x ≡ y = cc in (y, rw same at e, h)
 refuses (passed p) r x ar ss ns k e (c, f, _, _, _, _) = let z : ◌≡◌ {A = ℕ} 0 1 = cc in absurd (omega arith)
 
-reads : (o : Outcome System) (c : Counts) (k : Pack) → k.symbols ≡ c.symbols → k.rules ≡ c.rules → KeptRoom k → TextTold o (Ok c) k.arities k.starts k.nodes → PackTold o (Ok tt) k
+reads : (o : Outcome System) (c : Counts) (k : Pack) → k.symbols ≡ c.symbols → k.rules ≡ c.rules → TextTold o (Ok c) k.arities k.starts k.nodes → PackTold o (Ok tt) k
 unfolding TextTold PackTold RefusedWith
-reads (refused n) c k s r room (y, f, h) = let z : ◌≡◌ {A = ℕ} 0 1 = cc in absurd (omega arith)
-reads (passed p) c k s r room (d, f, _, w, m, n) = let same : c ≡ d = cc in (refl, room, rw (s, r, same) w, rw (s, same) m, rw (r, same) n)
+reads (refused n) c k s r (y, f, h) = let z : ◌≡◌ {A = ℕ} 0 1 = cc in absurd (omega arith)
+reads (passed p) c k s r (d, f, room, w, m, n) = let same : c ≡ d = cc in (refl, room, rw (s, r, same) w, rw (s, same) m, rw (r, same) n)
 
 pub returns-then-text-gt-MOST_TEXT_BYTES : goal.returns-then-text-gt-MOST_TEXT_BYTES
 returns-then-text-gt-MOST_TEXT_BYTES c = refuses _ _ _ _ _ _ _ refl (too_long _ [] [] [] c.if-text-gt-MOST_TEXT_BYTES.true)
@@ -47,6 +46,4 @@ returns-in_err-counts c =
     (text_read _ _ _ _ _ c.if-text-gt-MOST_TEXT_BYTES.false _ c.in_ok-at.ensures _ c.in_err-counts.ensures)
 
 pub returns : goal.returns
-returns c =
-    reads _ _ _ refl refl (record { arities_long = omega (arith, c.read_rules.auto); starts_long = omega (arith, c.read_rules.auto); nodes_long = omega (arith, c.read_rules.auto); flags_long = omega arith })
-    (text_read _ _ _ _ _ c.if-text-gt-MOST_TEXT_BYTES.false _ c.in_ok-at.ensures _ c.in_ok-counts.ensures)
+returns c = reads _ _ _ refl refl (text_read _ _ _ _ _ c.if-text-gt-MOST_TEXT_BYTES.false _ c.in_ok-at.ensures _ c.in_ok-counts.ensures)

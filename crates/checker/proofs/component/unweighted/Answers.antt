@@ -112,10 +112,10 @@ pub bounds-pack-rule : goal.bounds-pack-rule
 bounds-pack-rule c = omega (arith, in_rules c.requires c.record_at-r.ensures)
 
 pub arc_from-requires : goal.arc_from-requires
-arc_from-requires c = rw (c.from.ensures, c.from-2.ensures, c.from-rule.ensures) (asked c.requires c.record_at-r.ensures)
+arc_from-requires c = rw (c.view-view.ensures.2, c.view-view.ensures.3, c.view-view.ensures.4, c.view-view.ensures.5, c.from.ensures, c.from-2.ensures, c.from-rule.ensures) (asked c.requires c.record_at-r.ensures)
 
 pub returns-then-arc_from : goal.returns-then-arc_from
-returns-then-arc_from c = λ a. refuses a c.record_at-r.ensures (rw (c.from.ensures, c.from-2.ensures, c.from-rule.ensures) at c.arc_from.ensures) c.if-arc_from.true
+returns-then-arc_from c = λ a. refuses a c.record_at-r.ensures (rw (c.view-view.ensures.2, c.view-view.ensures.3, c.view-view.ensures.4, c.view-view.ensures.5, c.from.ensures, c.from-2.ensures, c.from-rule.ensures) at c.arc_from.ensures) c.if-arc_from.true
 
 pub overflow_add-result : goal.overflow_add-result
 overflow_add-result c =
@@ -123,4 +123,4 @@ overflow_add-result c =
     omega (arith, next_within)
 
 pub returns : goal.returns
-returns c = λ a. passes a c.record_at-r.ensures (rw (c.from.ensures, c.from-2.ensures, c.from-rule.ensures) at c.arc_from.ensures) c.if-arc_from.false
+returns c = λ a. passes a c.record_at-r.ensures (rw (c.view-view.ensures.2, c.view-view.ensures.3, c.view-view.ensures.4, c.view-view.ensures.5, c.from.ensures, c.from-2.ensures, c.from-rule.ensures) at c.arc_from.ensures) c.if-arc_from.false

@@ -15,19 +15,19 @@ loop-met-init c = λ m. agreeing _ _ _ _ _ _ _ _ m
 
 pub next_meeting-requires : goal.next_meeting-requires
 next_meeting-requires c =
-    let asked : let a = c.args in MeetingAt a.pack.now.arities a.pack.now.defined a.pack.now.nodes a.at a.variable a.u a.end a.v = c.requires in
+    let asked : let a = c.args in MeetingAt a.pack.now.arities.now a.pack.now.defined.now a.pack.now.nodes.now a.at a.variable a.u a.end a.v = c.requires in
     let m = asked in still_reaching (test _ _ _ _ _ _ _ _ m) m.lists.walk _ _ _ (c.loop-met.invariant m)
 
 pub bounds-pack-met : goal.bounds-pack-met
 bounds-pack-met c =
-    let asked : let a = c.args in MeetingAt a.pack.now.arities a.pack.now.defined a.pack.now.nodes a.at a.variable a.u a.end a.v = c.requires in
-    let within : c.in-Some.met.other < length c.args.pack.now.nodes = let m = asked in
+    let asked : let a = c.args in MeetingAt a.pack.now.arities.now a.pack.now.defined.now a.pack.now.nodes.now a.at a.variable a.u a.end a.v = c.requires in
+    let within : c.in-Some.met.other < length c.args.pack.now.nodes.now = let m = asked in
     other_within (test _ _ _ _ _ _ _ _ m) m.lists.walk _ _ _ (c.loop-met.invariant m) _ _ c.in-Some.ensures in
-    omega (arith, within)
+    within
 
 pub fits-requires : goal.fits-requires
 fits-requires c =
-    let asked : let a = c.args in MeetingAt a.pack.now.arities a.pack.now.defined a.pack.now.nodes a.at a.variable a.u a.end a.v = c.requires in
+    let asked : let a = c.args in MeetingAt a.pack.now.arities.now a.pack.now.defined.now a.pack.now.nodes.now a.at a.variable a.u a.end a.v = c.requires in
     let m = asked in
     two_terms _ _ _ _ _ _ _ _ m _ _ _
     (meets (test _ _ _ _ _ _ _ _ m) m.lists.walk _ _ _ (c.loop-met.invariant m) _ _ c.in-Some.ensures)
@@ -42,23 +42,23 @@ returns-then-not-fits c =
 
 pub skip-i-requires : goal.skip-i-requires
 skip-i-requires c =
-    let asked : let a = c.args in MeetingAt a.pack.now.arities a.pack.now.defined a.pack.now.nodes a.at a.variable a.u a.end a.v = c.requires in
-    let term : TermAt c.args.pack.now.arities c.args.pack.now.nodes c.in-Some.met.first = let m = asked in
+    let asked : let a = c.args in MeetingAt a.pack.now.arities.now a.pack.now.defined.now a.pack.now.nodes.now a.at a.variable a.u a.end a.v = c.requires in
+    let term : TermAt c.args.pack.now.arities.now c.args.pack.now.nodes.now c.in-Some.met.first = let m = asked in
     met_there (test _ _ _ _ _ _ _ _ m) m.lists.walk _ _ _ (c.loop-met.invariant m) _ _ c.in-Some.ensures in
     let walk = asked.lists.walk in
     (walk.arities_long, walk.nodes_few, term)
 
 pub overflow_add-k : goal.overflow_add-k
 overflow_add-k c =
-    let asked : let a = c.args in MeetingAt a.pack.now.arities a.pack.now.defined a.pack.now.nodes a.at a.variable a.u a.end a.v = c.requires in
-    let within : c.in-Some.met.other < length c.args.pack.now.nodes = let m = asked in
+    let asked : let a = c.args in MeetingAt a.pack.now.arities.now a.pack.now.defined.now a.pack.now.nodes.now a.at a.variable a.u a.end a.v = c.requires in
+    let within : c.in-Some.met.other < length c.args.pack.now.nodes.now = let m = asked in
     other_within (test _ _ _ _ _ _ _ _ m) m.lists.walk _ _ _ (c.loop-met.invariant m) _ _ c.in-Some.ensures in
     omega (arith, within)
 
 pub loop-met-smaller : goal.loop-met-smaller
 loop-met-smaller c =
-    let asked : let a = c.args in MeetingAt a.pack.now.arities a.pack.now.defined a.pack.now.nodes a.at a.variable a.u a.end a.v = c.requires in
-    let term : TermAt c.args.pack.now.arities c.args.pack.now.nodes c.in-Some.met.first = let m = asked in
+    let asked : let a = c.args in MeetingAt a.pack.now.arities.now a.pack.now.defined.now a.pack.now.nodes.now a.at a.variable a.u a.end a.v = c.requires in
+    let term : TermAt c.args.pack.now.arities.now c.args.pack.now.nodes.now c.in-Some.met.first = let m = asked in
     met_there (test _ _ _ _ _ _ _ _ m) m.lists.walk _ _ _ (c.loop-met.invariant m) _ _ c.in-Some.ensures in
     let m = asked in
     let on = next_later (test _ _ _ _ _ _ _ _ m) m.lists.walk _ _ _ (c.loop-met.invariant m) _ _ c.in-Some.ensures in

@@ -6,7 +6,7 @@ use Rattle.pair_finder.proofs.arcs.agrees.Given as goal
 
 abbrev pub invariant-loop-met : goal.invariant-loop-met
 invariant-loop-met l =
-    (m : MeetingAt l.pack.arities l.pack.defined l.pack.nodes l.at l.variable l.u l.end l.v) → ToAgree l.pack.arities l.pack.defined l.pack.nodes l.at l.variable l.u l.end l.v m l.i l.k
+    (m : MeetingAt l.pack.arities.now l.pack.defined.now l.pack.nodes.now l.at l.variable l.u l.end l.v) → ToAgree l.pack.arities.now l.pack.defined.now l.pack.nodes.now l.at l.variable l.u l.end l.v m l.i l.k
 
 abbrev pub decreases-loop-met : goal.decreases-loop-met
 decreases-loop-met l = l.end - l.i

@@ -15,34 +15,34 @@ loop-met-init c = λ w. agreeing_all _ _ _ _ _ _ w
 
 pub next_meeting-requires : goal.next_meeting-requires
 next_meeting-requires c =
-    let asked : let a = c.args in Reaching a.pack.now.arities a.pack.now.defined a.pack.now.nodes a.u a.end a.v = c.requires in
+    let asked : let a = c.args in Reaching a.pack.now.arities.now a.pack.now.defined.now a.pack.now.nodes.now a.u a.end a.v = c.requires in
     let w = asked in still_reaching (test_all _ _ _ _ _ _ w) w.walk _ _ _ (c.loop-met.invariant w)
 
 pub skip-next-requires : goal.skip-next-requires
 skip-next-requires c =
-    let asked : let a = c.args in Reaching a.pack.now.arities a.pack.now.defined a.pack.now.nodes a.u a.end a.v = c.requires in
-    let term : TermAt c.args.pack.now.arities c.args.pack.now.nodes c.in-Some.met.first = let w = asked in
+    let asked : let a = c.args in Reaching a.pack.now.arities.now a.pack.now.defined.now a.pack.now.nodes.now a.u a.end a.v = c.requires in
+    let term : TermAt c.args.pack.now.arities.now c.args.pack.now.nodes.now c.in-Some.met.first = let w = asked in
     met_there (test_all _ _ _ _ _ _ w) w.walk _ _ _ (c.loop-met.invariant w) _ _ c.in-Some.ensures in
     let walk = asked.walk in
     (walk.arities_long, walk.nodes_few, term)
 
 pub overflow_add-after : goal.overflow_add-after
 overflow_add-after c =
-    let asked : let a = c.args in Reaching a.pack.now.arities a.pack.now.defined a.pack.now.nodes a.u a.end a.v = c.requires in
-    let within : c.in-Some.met.other < length c.args.pack.now.nodes = let w = asked in
+    let asked : let a = c.args in Reaching a.pack.now.arities.now a.pack.now.defined.now a.pack.now.nodes.now a.u a.end a.v = c.requires in
+    let within : c.in-Some.met.other < length c.args.pack.now.nodes.now = let w = asked in
     other_within (test_all _ _ _ _ _ _ w) w.walk _ _ _ (c.loop-met.invariant w) _ _ c.in-Some.ensures in
     omega (arith, within)
 
 pub bounds-pack-met : goal.bounds-pack-met
 bounds-pack-met c =
-    let asked : let a = c.args in Reaching a.pack.now.arities a.pack.now.defined a.pack.now.nodes a.u a.end a.v = c.requires in
-    let within : c.in-Some.met.other < length c.args.pack.now.nodes = let w = asked in
+    let asked : let a = c.args in Reaching a.pack.now.arities.now a.pack.now.defined.now a.pack.now.nodes.now a.u a.end a.v = c.requires in
+    let within : c.in-Some.met.other < length c.args.pack.now.nodes.now = let w = asked in
     other_within (test_all _ _ _ _ _ _ w) w.walk _ _ _ (c.loop-met.invariant w) _ _ c.in-Some.ensures in
-    omega (arith, within)
+    within
 
 pub agrees-requires : goal.agrees-requires
 agrees-requires c =
-    let asked : let a = c.args in Reaching a.pack.now.arities a.pack.now.defined a.pack.now.nodes a.u a.end a.v = c.requires in
+    let asked : let a = c.args in Reaching a.pack.now.arities.now a.pack.now.defined.now a.pack.now.nodes.now a.u a.end a.v = c.requires in
     let w = asked in
     held_against _ _ _ _ _ _ w _ _ _
     (meets (test_all _ _ _ _ _ _ w) w.walk _ _ _ (c.loop-met.invariant w) _ _ c.in-Some.ensures) _ c.skip-next.ensures
@@ -57,8 +57,8 @@ returns-then-not-agrees c =
 
 pub loop-met-smaller : goal.loop-met-smaller
 loop-met-smaller c =
-    let asked : let a = c.args in Reaching a.pack.now.arities a.pack.now.defined a.pack.now.nodes a.u a.end a.v = c.requires in
-    let term : TermAt c.args.pack.now.arities c.args.pack.now.nodes c.in-Some.met.first = let w = asked in
+    let asked : let a = c.args in Reaching a.pack.now.arities.now a.pack.now.defined.now a.pack.now.nodes.now a.u a.end a.v = c.requires in
+    let term : TermAt c.args.pack.now.arities.now c.args.pack.now.nodes.now c.in-Some.met.first = let w = asked in
     met_there (test_all _ _ _ _ _ _ w) w.walk _ _ _ (c.loop-met.invariant w) _ _ c.in-Some.ensures in
     let w = asked in
     let on = next_later (test_all _ _ _ _ _ _ w) w.walk _ _ _ (c.loop-met.invariant w) _ _ c.in-Some.ensures in

@@ -6,7 +6,7 @@ use Rattle.pair_finder.proofs.arcs.all_agree.Given as goal
 
 abbrev pub invariant-loop-met : goal.invariant-loop-met
 invariant-loop-met l =
-    (w : Reaching l.pack.arities l.pack.defined l.pack.nodes l.u l.end l.v) → ToAgreeAll l.pack.arities l.pack.defined l.pack.nodes l.u l.end l.v w l.i l.k
+    (w : Reaching l.pack.arities.now l.pack.defined.now l.pack.nodes.now l.u l.end l.v) → ToAgreeAll l.pack.arities.now l.pack.defined.now l.pack.nodes.now l.u l.end l.v w l.i l.k
 
 abbrev pub decreases-loop-met : goal.decreases-loop-met
 decreases-loop-met l = l.end - l.i

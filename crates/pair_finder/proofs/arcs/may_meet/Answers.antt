@@ -30,25 +30,25 @@ loop-i-init c = λ w. record { firsts = w.first; others = w.other; lists = w.lis
 
 pub bounds-pack-i : goal.bounds-pack-i
 bounds-pack-i c =
-    let first : TermAt c.args.pack.now.arities c.args.pack.now.nodes c.loop-i.i = let l = c.loop-i in
+    let first : TermAt c.args.pack.now.arities.now c.args.pack.now.nodes.now c.loop-i.i = let l = c.loop-i in
     first_there _ _ _ _ _ _ _ _ _ (at_hand _ _ _ _ _ _ _ l.i l.k (l.invariant c.requires) c.loop-i-test.true) in
-    omega (arith, term_within _ _ _ first)
+    term_within _ _ _ first
 
 pub bounds-pack-k : goal.bounds-pack-k
 bounds-pack-k c =
-    let other : TermAt c.args.pack.now.arities c.args.pack.now.nodes c.loop-i.k = let l = c.loop-i in
+    let other : TermAt c.args.pack.now.arities.now c.args.pack.now.nodes.now c.loop-i.k = let l = c.loop-i in
     other_there _ _ _ _ _ _ _ _ _ (at_hand _ _ _ _ _ _ _ l.i l.k (l.invariant c.requires) c.loop-i-test.true) in
-    omega (arith, term_within _ _ _ other)
+    term_within _ _ _ other
 
 pub overflow_add-i : goal.overflow_add-i
 overflow_add-i c =
-    let first : TermAt c.args.pack.now.arities c.args.pack.now.nodes c.loop-i.i = let l = c.loop-i in
+    let first : TermAt c.args.pack.now.arities.now c.args.pack.now.nodes.now c.loop-i.i = let l = c.loop-i in
     first_there _ _ _ _ _ _ _ _ _ (at_hand _ _ _ _ _ _ _ l.i l.k (l.invariant c.requires) c.loop-i-test.true) in
     omega (arith, term_within _ _ _ first)
 
 pub overflow_add-k : goal.overflow_add-k
 overflow_add-k c =
-    let other : TermAt c.args.pack.now.arities c.args.pack.now.nodes c.loop-i.k = let l = c.loop-i in
+    let other : TermAt c.args.pack.now.arities.now c.args.pack.now.nodes.now c.loop-i.k = let l = c.loop-i in
     other_there _ _ _ _ _ _ _ _ _ (at_hand _ _ _ _ _ _ _ l.i l.k (l.invariant c.requires) c.loop-i-test.true) in
     omega (arith, term_within _ _ _ other)
 
@@ -68,19 +68,19 @@ returns-then-not-jumps c =
 
 pub skip-i-requires : goal.skip-i-requires
 skip-i-requires c =
-    let first : TermAt c.args.pack.now.arities c.args.pack.now.nodes c.loop-i.i = let l = c.loop-i in
+    let first : TermAt c.args.pack.now.arities.now c.args.pack.now.nodes.now c.loop-i.i = let l = c.loop-i in
     first_there _ _ _ _ _ _ _ _ _ (at_hand _ _ _ _ _ _ _ l.i l.k (l.invariant c.requires) c.loop-i-test.true) in
     (c.requires.arities_long, c.requires.nodes_few, first)
 
 pub skip-k-requires : goal.skip-k-requires
 skip-k-requires c =
-    let other : TermAt c.args.pack.now.arities c.args.pack.now.nodes c.loop-i.k = let l = c.loop-i in
+    let other : TermAt c.args.pack.now.arities.now c.args.pack.now.nodes.now c.loop-i.k = let l = c.loop-i in
     other_there _ _ _ _ _ _ _ _ _ (at_hand _ _ _ _ _ _ _ l.i l.k (l.invariant c.requires) c.loop-i-test.true) in
     (c.requires.arities_long, c.requires.others_few, other)
 
 pub loop-i-smaller : goal.loop-i-smaller
 loop-i-smaller c =
-    let first : TermAt c.args.pack.now.arities c.args.pack.now.nodes c.loop-i.i = let l = c.loop-i in
+    let first : TermAt c.args.pack.now.arities.now c.args.pack.now.nodes.now c.loop-i.i = let l = c.loop-i in
     first_there _ _ _ _ _ _ _ _ _ (at_hand _ _ _ _ _ _ _ l.i l.k (l.invariant c.requires) c.loop-i-test.true) in
     omega (arith, c.loop-i-test.true, term_passed _ _ _ first c.skip-i.result (c.skip-i.ensures first))
 

@@ -9,8 +9,8 @@ use Rattle.pair_finder.proofs.arcs.may_meet.Given as goal
 
 abbrev pub invariant-loop-i : goal.invariant-loop-i
 invariant-loop-i l =
-    (w : Walkable l.pack.arities l.pack.defined l.pack.nodes l.pack.nodes l.u l.end l.v) →
-    ToWalk w.system l.pack.arities l.pack.defined l.pack.nodes l.pack.nodes l.end (Answered l.both w.system (may_meet l.both w.system w.first w.other)) l.i l.k
+    (w : Walkable l.pack.arities.now l.pack.defined.now l.pack.nodes.now l.pack.nodes.now l.u l.end l.v) →
+    ToWalk w.system l.pack.arities.now l.pack.defined.now l.pack.nodes.now l.pack.nodes.now l.end (Answered l.both w.system (may_meet l.both w.system w.first w.other)) l.i l.k
 
 abbrev pub decreases-loop-i : goal.decreases-loop-i
 decreases-loop-i l = l.end - l.i

@@ -13,33 +13,36 @@ loop-i-init c =
 
 pub bounds-pack-i : goal.bounds-pack-i
 bounds-pack-i c =
-    let first : TermAt c.args.pack.now.arities c.args.pack.now.nodes c.loop-i.i = let l = c.loop-i in
+    let first : TermAt c.args.pack.now.arities.now c.args.pack.now.nodes.now c.loop-i.i = let l = c.loop-i in
     first_there _ _ _ _ _ _ _ _ _ (at_hand _ _ _ _ _ _ _ l.i l.k (l.invariant.1 c.requires) c.loop-i-test.true) in
-    omega (arith, term_within _ _ _ first)
+    term_within _ _ _ first
+
+pub is_open-requires : goal.is_open-requires
+is_open-requires c = c.requires.walk.flags_long
 
 pub skip-i-requires : goal.skip-i-requires
 skip-i-requires c =
-    let first : TermAt c.args.pack.now.arities c.args.pack.now.nodes c.loop-i.i = let l = c.loop-i in
+    let first : TermAt c.args.pack.now.arities.now c.args.pack.now.nodes.now c.loop-i.i = let l = c.loop-i in
     first_there _ _ _ _ _ _ _ _ _ (at_hand _ _ _ _ _ _ _ l.i l.k (l.invariant.1 c.requires) c.loop-i-test.true) in
     let walk = c.requires.walk in
     (walk.arities_long, walk.nodes_few, first)
 
 pub skip-k-requires : goal.skip-k-requires
 skip-k-requires c =
-    let other : TermAt c.args.pack.now.arities c.args.pack.now.nodes c.loop-i.k = let l = c.loop-i in
+    let other : TermAt c.args.pack.now.arities.now c.args.pack.now.nodes.now c.loop-i.k = let l = c.loop-i in
     other_there _ _ _ _ _ _ _ _ _ (at_hand _ _ _ _ _ _ _ l.i l.k (l.invariant.1 c.requires) c.loop-i-test.true) in
     let walk = c.requires.walk in
     (walk.arities_long, walk.nodes_few, other)
 
 pub loop-i-smaller-then-is_open : goal.loop-i-smaller-then-is_open
 loop-i-smaller-then-is_open c =
-    let first : TermAt c.args.pack.now.arities c.args.pack.now.nodes c.loop-i.i = let l = c.loop-i in
+    let first : TermAt c.args.pack.now.arities.now c.args.pack.now.nodes.now c.loop-i.i = let l = c.loop-i in
     first_there _ _ _ _ _ _ _ _ _ (at_hand _ _ _ _ _ _ _ l.i l.k (l.invariant.1 c.requires) c.loop-i-test.true) in
     omega (arith, c.loop-i-test.true, term_passed _ _ _ first c.skip-i.result (c.skip-i.ensures first))
 
 pub loop-i-preserved-then-is_open : goal.loop-i-preserved-then-is_open
 loop-i-preserved-then-is_open c =
-    let first : TermAt c.args.pack.now.arities c.args.pack.now.nodes c.loop-i.i = let l = c.loop-i in
+    let first : TermAt c.args.pack.now.arities.now c.args.pack.now.nodes.now c.loop-i.i = let l = c.loop-i in
     first_there _ _ _ _ _ _ _ _ _ (at_hand _ _ _ _ _ _ _ l.i l.k (l.invariant.1 c.requires) c.loop-i-test.true) in
     let l = c.loop-i in (
       omega (arith, l.invariant.0, term_passed _ _ _ first c.skip-i.result (c.skip-i.ensures first)),
@@ -50,9 +53,9 @@ loop-i-preserved-then-is_open c =
 
 pub bounds-pack-k : goal.bounds-pack-k
 bounds-pack-k c =
-    let other : TermAt c.args.pack.now.arities c.args.pack.now.nodes c.loop-i.k = let l = c.loop-i in
+    let other : TermAt c.args.pack.now.arities.now c.args.pack.now.nodes.now c.loop-i.k = let l = c.loop-i in
     other_there _ _ _ _ _ _ _ _ _ (at_hand _ _ _ _ _ _ _ l.i l.k (l.invariant.1 c.requires) c.loop-i-test.true) in
-    omega (arith, term_within _ _ _ other)
+    term_within _ _ _ other
 
 pub returns-then-pack-k-ge-FIRST_VARIABLE : goal.returns-then-pack-k-ge-FIRST_VARIABLE
 returns-then-pack-k-ge-FIRST_VARIABLE c =
@@ -63,13 +66,13 @@ returns-then-pack-k-ge-FIRST_VARIABLE c =
 
 pub overflow_add-i : goal.overflow_add-i
 overflow_add-i c =
-    let first : TermAt c.args.pack.now.arities c.args.pack.now.nodes c.loop-i.i = let l = c.loop-i in
+    let first : TermAt c.args.pack.now.arities.now c.args.pack.now.nodes.now c.loop-i.i = let l = c.loop-i in
     first_there _ _ _ _ _ _ _ _ _ (at_hand _ _ _ _ _ _ _ l.i l.k (l.invariant.1 c.requires) c.loop-i-test.true) in
     omega (arith, term_within _ _ _ first)
 
 pub overflow_add-k : goal.overflow_add-k
 overflow_add-k c =
-    let other : TermAt c.args.pack.now.arities c.args.pack.now.nodes c.loop-i.k = let l = c.loop-i in
+    let other : TermAt c.args.pack.now.arities.now c.args.pack.now.nodes.now c.loop-i.k = let l = c.loop-i in
     other_there _ _ _ _ _ _ _ _ _ (at_hand _ _ _ _ _ _ _ l.i l.k (l.invariant.1 c.requires) c.loop-i-test.true) in
     omega (arith, term_within _ _ _ other)
 

@@ -9,8 +9,8 @@ use Rattle.pair_finder.proofs.arcs.next_meeting.Given as goal
 abbrev pub invariant-loop-i : goal.invariant-loop-i
 invariant-loop-i l =
     (l.u ≤ l.i)
-    × ((w : Reaching l.pack.arities l.pack.defined l.pack.nodes l.u l.end l.v) →
-    ToWalk w.walk.system l.pack.arities l.pack.defined l.pack.nodes l.pack.nodes l.end (Met w.walk.system (meetings w.walk.system w.walk.first w.walk.other)) l.i l.k)
+    × ((w : Reaching l.pack.arities.now l.pack.defined.now l.pack.nodes.now l.u l.end l.v) →
+    ToWalk w.walk.system l.pack.arities.now l.pack.defined.now l.pack.nodes.now l.pack.nodes.now l.end (Met w.walk.system (meetings w.walk.system w.walk.first w.walk.other)) l.i l.k)
 
 abbrev pub decreases-loop-i : goal.decreases-loop-i
 decreases-loop-i l = l.end - l.i

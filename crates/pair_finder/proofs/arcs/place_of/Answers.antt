@@ -11,7 +11,7 @@ returns-then-pack-rule c =
     λ p symbols arities s. rw (stored_place p symbols _ arities _ _ _ s _ _, le-ltb _ _ c.if-pack-rule.true)
 
 pub overflow_sub-to : goal.overflow_sub-to
-overflow_sub-to c = rw (c.from-from.ensures, c.from-to.ensures) (c.requires.rises _ c.if-pack-rule.false)
+overflow_sub-to c = rw (c.from-from.ensures, c.from-to.ensures) (c.requires.0.rises _ c.if-pack-rule.false)
 
 pub returns-then-to-from : goal.returns-then-to-from
 unfolding PlaceAnswer
@@ -20,13 +20,13 @@ returns-then-to-from c =
     rw (stored_place p symbols _ arities _ _ _ s _ _, lt-ltb _ _ c.if-pack-rule.false, le-ltb _ _ past)
 
 pub overflow_add-from : goal.overflow_add-from
-overflow_add-from c = omega (arith, c.requires.within _ c.if-pack-rule.false)
+overflow_add-from c = omega (arith, c.requires.0.within _ c.if-pack-rule.false)
 
 pub bounds-pack-from : goal.bounds-pack-from
-bounds-pack-from c = omega (arith, c.requires.within _ c.if-pack-rule.false)
+bounds-pack-from c = omega (arith, c.requires.0.within _ c.if-pack-rule.false)
 
 pub overflow_add-result : goal.overflow_add-result
-overflow_add-result c = omega (arith, c.requires.within _ c.if-pack-rule.false)
+overflow_add-result c = omega (arith, c.requires.0.within _ c.if-pack-rule.false)
 
 pub returns-then-is_defined : goal.returns-then-is_defined
 unfolding PlaceAnswer

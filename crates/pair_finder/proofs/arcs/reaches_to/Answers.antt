@@ -19,13 +19,13 @@ bounds-pack-other c = omega (arith, other_small _ _ _ _ _ _ c.requires.asked)
 
 pub bounds-pack-right : goal.bounds-pack-right
 bounds-pack-right c =
-    let right_within : c.args.right < length c.args.pack.now.nodes = term_within _ _ _ (right_at _ _ _ _ _ _ c.requires.asked) in
-    omega (arith, right_within)
+    let right_within : c.args.right < length c.args.pack.now.nodes.now = term_within _ _ _ (right_at _ _ _ _ _ _ c.requires.asked) in
+    right_within
 
 pub bounds-pack-left : goal.bounds-pack-left
 bounds-pack-left c =
-    let left_within : get_or c.args.pack.now.starts (2 * c.args.other) 0 < length c.args.pack.now.nodes = term_within _ _ _ (left_at _ _ _ _ _ _ c.requires.asked) in
-    omega (arith, c.from-left.ensures, left_within)
+    let left_within : get_or c.args.pack.now.starts.now (2 * c.args.other) 0 < length c.args.pack.now.nodes.now = term_within _ _ _ (left_at _ _ _ _ _ _ c.requires.asked) in
+    rw c.from-left.ensures left_within
 
 pub returns-else-pack-right : goal.returns-else-pack-right
 returns-else-pack-right c =
@@ -33,12 +33,12 @@ returns-else-pack-right c =
 
 pub overflow_add-right : goal.overflow_add-right
 overflow_add-right c =
-    let right_within : c.args.right < length c.args.pack.now.nodes = term_within _ _ _ (right_at _ _ _ _ _ _ c.requires.asked) in
+    let right_within : c.args.right < length c.args.pack.now.nodes.now = term_within _ _ _ (right_at _ _ _ _ _ _ c.requires.asked) in
     omega (arith, right_within)
 
 pub overflow_add-left : goal.overflow_add-left
 overflow_add-left c =
-    let left_within : get_or c.args.pack.now.starts (2 * c.args.other) 0 < length c.args.pack.now.nodes = term_within _ _ _ (left_at _ _ _ _ _ _ c.requires.asked) in
+    let left_within : get_or c.args.pack.now.starts.now (2 * c.args.other) 0 < length c.args.pack.now.nodes.now = term_within _ _ _ (left_at _ _ _ _ _ _ c.requires.asked) in
     omega (arith, left_within, c.from-left.ensures)
 
 pub may_meet-requires : goal.may_meet-requires

@@ -23,7 +23,7 @@ pub returns : goal.returns
 unfolding part
 returns c =
     let pack = c.args.pack.now in
-    let side = take (c.args.to - c.args.from) (drop c.args.from pack.nodes) in
+    let side = take (c.args.to - c.args.from) (drop c.args.from pack.nodes.now) in
     count_from_yields_List c.filter.result _ c.count.ensures.ran
-    (YieldsList-from_filter _ (is_defined pack.defined) (YieldsList-from_slice side cc) c.filter.ensures.closure (λ x r q k. search (rules, tests)))
-    ∙ as_many pack.defined 0 side
+    (YieldsList-from_filter _ (is_defined pack.defined.now) (YieldsList-from_slice side cc) c.filter.ensures.closure (λ x r q k. search (rules, tests)))
+    ∙ as_many pack.defined.now 0 side

@@ -15,7 +15,7 @@ loop-i-init c = (omega arith, omega arith, refl)
 pub count_in-n-requires : goal.count_in-n-requires
 count_in-n-requires c =
     let l = c.loop-i in
-    rw (c.from-from.ensures, c.from-to.ensures) (c.requires.rises l.i c.loop-i-test.true, c.requires.within l.i c.loop-i-test.true)
+    rw (c.from-from.ensures, c.from-to.ensures) (c.requires.0.rises l.i c.loop-i-test.true, c.requires.0.within l.i c.loop-i-test.true, c.requires.1)
 
 pub overflow_add-n : goal.overflow_add-n
 unfolding first_pairs
@@ -23,8 +23,8 @@ overflow_add-n c =
     let few : c.count_in-n.result ≤ 32 = let l = c.loop-i in
     omega (
       arith,
-      part_places_few c.args.pack.now.defined c.args.pack.now.nodes (get_or c.args.pack.now.starts (2 * l.i + 1) 0) (get_or c.args.pack.now.starts (2 * l.i + 2) 0),
-      c.requires.short l.i c.loop-i-test.true,
+      part_places_few c.args.pack.now.defined.now c.args.pack.now.nodes.now (get_or c.args.pack.now.starts.now (2 * l.i + 1) 0) (get_or c.args.pack.now.starts.now (2 * l.i + 2) 0),
+      c.requires.0.short l.i c.loop-i-test.true,
       rw (c.from-from.ensures, c.from-to.ensures) at c.count_in-n.ensures,
     ) in
     omega (arith, few)
@@ -34,13 +34,13 @@ loop-i-preserved c =
     let few : c.count_in-n.result ≤ 32 = let l = c.loop-i in
     omega (
       arith,
-      part_places_few c.args.pack.now.defined c.args.pack.now.nodes (get_or c.args.pack.now.starts (2 * l.i + 1) 0) (get_or c.args.pack.now.starts (2 * l.i + 2) 0),
-      c.requires.short l.i c.loop-i-test.true,
+      part_places_few c.args.pack.now.defined.now c.args.pack.now.nodes.now (get_or c.args.pack.now.starts.now (2 * l.i + 1) 0) (get_or c.args.pack.now.starts.now (2 * l.i + 2) 0),
+      c.requires.0.short l.i c.loop-i-test.true,
       rw (c.from-from.ensures, c.from-to.ensures) at c.count_in-n.ensures,
     ) in
     let l = c.loop-i in
-    let rest = rule_pairs_long c.args.pack.now.starts c.args.pack.now.nodes c.args.pack.now.defined l.i in
-    let more = first_more_long c.args.pack.now.starts c.args.pack.now.nodes c.args.pack.now.defined l.i in
+    let rest = rule_pairs_long c.args.pack.now.starts.now c.args.pack.now.nodes.now c.args.pack.now.defined.now l.i in
+    let more = first_more_long c.args.pack.now.starts.now c.args.pack.now.nodes.now c.args.pack.now.defined.now l.i in
     (omega arith, omega (arith, few), omega (arith, rw (c.from-from.ensures, c.from-to.ensures) at c.count_in-n.ensures))
 
 pub returns : goal.returns

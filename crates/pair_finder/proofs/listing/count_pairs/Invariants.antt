@@ -7,4 +7,4 @@ use Rattle.pair_finder.specs.Walking.{first_pairs}
 use Rattle.pair_finder.proofs.listing.count_pairs.Given as goal
 
 abbrev pub invariant-loop-i : goal.invariant-loop-i
-invariant-loop-i l = (l.i ≤ l.pack.rules) × (l.n ≤ 32 * l.i) × (l.n ≡ length (first_pairs l.pack.starts l.pack.nodes l.pack.defined l.i))
+invariant-loop-i l = (l.i ≤ l.pack.rules) × (l.n ≤ 32 * l.i) × (l.n ≡ length (first_pairs l.pack.starts.now l.pack.nodes.now l.pack.defined.now l.i))

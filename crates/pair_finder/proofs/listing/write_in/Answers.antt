@@ -65,22 +65,22 @@ loop-i-init c = (omega arith, omega arith, refl, at_first _ _ _ _ _ _ _)
 pub write_record-requires : goal.write_record-requires
 write_record-requires c =
     let room : c.loop-i.next + 8 ≤ length c.args.list.now = let l = c.loop-i in
-    one_fits _ c.args.rule _ _ c.args.pack.now.nodes c.args.pack.now.defined c.args.list.now l.next l.i l.list l.invariant.3
-    l.invariant.0 c.loop-i-test.true c.requires.3 (sym c.is_defined.ensures ∙ c.if-is_defined.true) c.requires.4 in
+    one_fits _ c.args.rule _ _ c.args.pack.now.nodes.now c.args.pack.now.defined.now c.args.list.now l.next l.i l.list l.invariant.3
+    l.invariant.0 c.loop-i-test.true c.requires.3 (sym c.is_defined.ensures ∙ c.if-is_defined.true) c.requires.5 in
     omega (arith, room, c.loop-i.invariant.2)
 
 pub overflow_add-next : goal.overflow_add-next
 overflow_add-next c =
     let room : c.loop-i.next + 8 ≤ length c.args.list.now = let l = c.loop-i in
-    one_fits _ c.args.rule _ _ c.args.pack.now.nodes c.args.pack.now.defined c.args.list.now l.next l.i l.list l.invariant.3
-    l.invariant.0 c.loop-i-test.true c.requires.3 (sym c.is_defined.ensures ∙ c.if-is_defined.true) c.requires.4 in
+    one_fits _ c.args.rule _ _ c.args.pack.now.nodes.now c.args.pack.now.defined.now c.args.list.now l.next l.i l.list l.invariant.3
+    l.invariant.0 c.loop-i-test.true c.requires.3 (sym c.is_defined.ensures ∙ c.if-is_defined.true) c.requires.5 in
     omega (arith, room)
 
 pub loop-i-preserved : goal.loop-i-preserved
 unfolding pair_record
 loop-i-preserved c =
     let l = c.loop-i in
-    let nodes = c.args.pack.now.nodes in
+    let nodes = c.args.pack.now.nodes.now in
     ⊎_elim
     (λ w.
     let told = sym c.is_defined.ensures ∙ w.if-is_defined.true in (
@@ -88,7 +88,7 @@ loop-i-preserved c =
       omega arith,
       ap length w.list-is ∙ w.write_record.auto.list ∙ l.invariant.2,
       rw (w.list-is, w.next-is)
-          (one_written _ _ _ _ nodes _ _ l.next l.i l.list l.invariant.3 l.invariant.0 c.loop-i-test.true c.requires.3 told c.requires.4 _ w.write_record.ensures),
+          (one_written _ _ _ _ nodes _ _ l.next l.i l.list l.invariant.3 l.invariant.0 c.loop-i-test.true c.requires.3 told c.requires.5 _ w.write_record.ensures),
     ))
     (λ w.
     let told = sym c.is_defined.ensures ∙ w.if-is_defined.false in (

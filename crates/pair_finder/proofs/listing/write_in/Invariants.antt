@@ -19,4 +19,4 @@ pub record SoFar (at rule from to : ℕ) (nodes flags before : List ℕ) (next i
 
 abbrev pub invariant-loop-i : goal.invariant-loop-i
 invariant-loop-i l =
-    (l.from ≤ l.i) × (l.i ≤ l.to) × (length l.list ≡ length l.initial.list) × SoFar l.at l.rule l.from l.to l.pack.nodes l.pack.defined l.initial.list l.next l.i l.list
+    (l.from ≤ l.i) × (l.i ≤ l.to) × (length l.list ≡ length l.initial.list) × SoFar l.at l.rule l.from l.to l.pack.nodes.now l.pack.defined.now l.initial.list l.next l.i l.list

@@ -31,10 +31,11 @@ write_in-at-requires c =
       laid.rises l.i c.loop-i-test.true,
       laid.short l.i c.loop-i-test.true,
       laid.within l.i c.loop-i-test.true,
+      c.requires.1,
       omega (
         arith,
-        rule_fits _ _ _ _ l.list _ l.i l.at c.loop-i-test.true c.requires.1 l.invariant.2,
-        rule_pairs_long c.args.pack.now.starts c.args.pack.now.nodes c.args.pack.now.defined l.i,
+        rule_fits _ _ _ _ l.list _ l.i l.at c.loop-i-test.true c.requires.2 l.invariant.2,
+        rule_pairs_long c.args.pack.now.starts.now c.args.pack.now.nodes.now c.args.pack.now.defined.now l.i,
         l.invariant.1,
       ),
     )
@@ -45,7 +46,7 @@ loop-i-preserved c =
     let l = c.loop-i in (
       omega arith,
       c.write_in-at.auto.list ∙ l.invariant.1,
-      rule_written _ _ _ _ l.list _ l.i l.at c.loop-i-test.true c.requires.1 l.invariant.2 _ _ (rw (c.from-from.ensures, c.from-to.ensures) at c.write_in-at.ensures),
+      rule_written _ _ _ _ l.list _ l.i l.at c.loop-i-test.true c.requires.2 l.invariant.2 _ _ (rw (c.from-from.ensures, c.from-to.ensures) at c.write_in-at.ensures),
     )
 
 pub returns : goal.returns

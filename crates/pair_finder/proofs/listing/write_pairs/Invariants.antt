@@ -7,4 +7,4 @@ use Rattle.pair_finder.proofs.listing.write_pairs.Given as goal
 
 abbrev pub invariant-loop-i : goal.invariant-loop-i
 invariant-loop-i l =
-    (l.i ≤ l.pack.rules) × (length l.list ≡ length l.initial.list) × Written 0 (first_pairs l.pack.starts l.pack.nodes l.pack.defined l.i) l.at l.initial.list l.list
+    (l.i ≤ l.pack.rules) × (length l.list ≡ length l.initial.list) × Written 0 (first_pairs l.pack.starts.now l.pack.nodes.now l.pack.defined.now l.i) l.at l.initial.list l.list

@@ -4,24 +4,24 @@ use Rattle.teldyzhom.proofs.Checks.{reading_asked, certificate_refused, certific
 use Rattle.teldyzhom.proofs.kept.check_kept.Goals as goal
 
 pub read_components-requires : goal.read_components-requires
-read_components-requires c = reading_asked c.requires
+read_components-requires c = rw (c.view-view.ensures.0, c.view-view.ensures.1, c.view-view.ensures.2, c.view-view.ensures.3, c.view-view.ensures.4, c.view-view.ensures.5) (reading_asked c.requires)
 
 pub returns-in_err-components : goal.returns-in_err-components
 returns-in_err-components c = λ a.
     rw (handed_on c.from_residual.result c.from_residual.ensures.1)
-    (certificate_stops a _ (certificate_refused _ _ (c.in_err-components.ensures a.system a.stored)))
+    (certificate_stops a _ (certificate_refused _ _ ((rw (c.view-view.ensures.0, c.view-view.ensures.1, c.view-view.ensures.2, c.view-view.ensures.3, c.view-view.ensures.4, c.view-view.ensures.5) at c.in_err-components.ensures) a.system a.stored)))
 
 pub judge-requires : goal.judge-requires
 judge-requires c =
     let a = c.requires in
-    judgeable a _ (certificate_found _ _ (c.in_ok-components.ensures a.system a.stored))
+    judgeable a _ (certificate_found _ _ ((rw (c.view-view.ensures.0, c.view-view.ensures.1, c.view-view.ensures.2, c.view-view.ensures.3, c.view-view.ensures.4, c.view-view.ensures.5) at c.in_ok-components.ensures) a.system a.stored))
 
 pub returns-in-Err : goal.returns-in-Err
 returns-in-Err c = λ a.
-    let found = certificate_found _ _ (c.in_ok-components.ensures a.system a.stored) in
+    let found = certificate_found _ _ ((rw (c.view-view.ensures.0, c.view-view.ensures.1, c.view-view.ensures.2, c.view-view.ensures.3, c.view-view.ensures.4, c.view-view.ensures.5) at c.in_ok-components.ensures) a.system a.stored) in
     judge_stops a _ found _ _ (c.in-Err.ensures (judgeable a _ found)).numbered
 
 pub returns-in-Ok : goal.returns-in-Ok
 returns-in-Ok c = λ a.
-    let found = certificate_found _ _ (c.in_ok-components.ensures a.system a.stored) in
+    let found = certificate_found _ _ ((rw (c.view-view.ensures.0, c.view-view.ensures.1, c.view-view.ensures.2, c.view-view.ensures.3, c.view-view.ensures.4, c.view-view.ensures.5) at c.in_ok-components.ensures) a.system a.stored) in
     judge_passes a _ found _ (c.in-Ok.ensures (judgeable a _ found)).numbered
