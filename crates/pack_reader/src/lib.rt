@@ -33,8 +33,10 @@ pub struct Pack {
 }
 
 impl Pack {
-    // Room for a pack.
-    pub fn new() -> Pack {
+    // Room for a pack, with none in it.
+    pub fn new() -> Pack
+        ensures { (result.symbols ≡ 0) × (result.rules ≡ 0) }
+    {
         Pack {
             symbols: 0,
             rules: 0,
