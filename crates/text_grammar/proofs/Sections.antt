@@ -3,8 +3,7 @@ use mathlib.Core.Path.{◌≡◌, refl, sym, ap}
 use mathlib.Core.Bool.{true, false, cond, false≢true}
 use mathlib.Core.List.{List, []}
 use mathlib.Core.Option.{Option, none, some, none-ne-some}
-use Prim.Native.Nat.{ℕ, zero, suc, ◌≤◌}
-use native.Mathlib.Omega.{arith}
+use Prim.Native.Nat.{ℕ, ◌≤◌}
 use lib.ListN.{length}
 use Rattle.std.specs.Prelude.{Result, Ok, Err}
 use Rattle.records.specs.declared.Refusal.{Refusal}
@@ -12,13 +11,13 @@ use Rattle.records.specs.declared.Refusal.TheVariants.{BadText}
 use Rattle.texts.specs.Tokens.{Name, Token, opens, tokens}
 use Rattle.texts.specs.Spelling.{TextRule, Text, VAR, RULES, same}
 use Rattle.texts.specs.TextReading.{then, at_start, rules_from, word_read, heading_read, listed, after_names, parse}
-use Rattle.texts.proofs.Parsing.{rules_only, heading_only}
+use Rattle.texts.proofs.Parsing.{rules_only}
 use Rattle.text_tokens.specs.declared.Token.{Token as ToldToken}
 use Rattle.text_tokens.specs.declared.Token.TheVariants.{Name as ToldName, Open, Close, Comma, Arrow, Bad, End}
 use Rattle.text_tokens.specs.Told.{name_at, tokens_at, Moves, Named, Told}
 use Rattle.text_names.specs.declared.Table.{Table}
-use Rattle.text_names.specs.Table.{VariablesKept, TableEmpty, VariablesRead}
-use Rattle.text_grammar.specs.Grammar.{is_some, no_tokens, GrammarAsked, BadAnswer, HeadingTold, rules_behind, BehindTold, GrammarTold}
+use Rattle.text_names.specs.Table.{VariablesKept, VariablesRead}
+use Rattle.text_grammar.specs.Grammar.{is_some, no_tokens, BadAnswer, HeadingTold, rules_behind, BehindTold, GrammarTold}
 
 -- THE END of a text
 module _ (text : List ℕ) (at : ℕ) where
@@ -88,11 +87,6 @@ module _ (text : List ℕ) where
       let is : e ≡ h.0 = cc in
       (rw is (ap some (sym h.2)), rw is h.3)
 
-  -- a heading takes a byte
-  pub later : (w : Name) (e : ℕ) → heading_read w (tokens_at text 0) ≡ some (tokens_at text e) → 1 ≤ e
-  later w zero h = absurd (omega (arith, ap length (heading_only w _ _ h)))
-  later w (suc e) h = omega arith
-
 -- THE VARIABLES
 module _ (text : List ℕ) (at : ℕ) (z : Table) where
   pub same_answer : (o : Option (List Token)) (x y : Result ℕ Refusal) → x ≡ y → VariablesRead text at o x z → VariablesRead text at o y z
@@ -111,10 +105,6 @@ module _ (text : List ℕ) (at : ℕ) (z : Table) where
       let k : Ok e ≡ Ok h.0 = h.1 in
       let is : e ≡ h.0 = cc in
       (rw is (ap some (sym h.2)), rw is h.3, h.4)
-
--- they may be read from a place behind a heading on
-pub table_empty : (text : List ℕ) (table : Table) (a : ℕ) → GrammarAsked text table → a ≤ length text → 1 ≤ a → TableEmpty text table a
-table_empty text table a q h later = record { text_short = q.text_short; within = h; later = later; free = q.free }
 
 -- THE RULES behind the variables
 module _ (text : List ℕ) (vs : List Name) (ts : List Token) where

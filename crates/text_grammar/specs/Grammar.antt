@@ -10,7 +10,7 @@ use Rattle.text_tokens.specs.Told.{tokens_at}
 use Rattle.text_grammar.specs.declared.Mode.{Mode}
 use Rattle.text_grammar.specs.declared.Mode.TheVariants.{Wanted, Opened, Named, Ended}
 use Rattle.text_names.specs.declared.Table.{Table}
-use Rattle.text_names.specs.Table.{VariablesKept, TableFree}
+use Rattle.text_names.specs.Table.{VariablesKept, TableEmpty}
 
 -- where the loop over the rules stands, as a number: 0 and 1 where a term may come, 2 and 3 behind one
 abbrev pub rank : Mode → ℕ
@@ -37,7 +37,7 @@ pub record RulesAsked (text : List ℕ) (at : ℕ) (table : Table) : Type 0 wher
 -- a text is to be read with a table in which nothing is kept
 pub record GrammarAsked (text : List ℕ) (table : Table) : Type 0 where
   pub text_short : length text ≤ most_text_bytes
-  pub free : TableFree table
+  pub empty : TableEmpty table
 
 -- refused with 15
 unfoldable pub BadAnswer : Result ℕ Refusal → Type 0

@@ -16,8 +16,8 @@ use Rattle.text_tokens.specs.declared.Token.TheVariants.{Name as ToldName, Open,
 use Rattle.text_tokens.specs.Told.{name_at, tokens_at, Moves, Named, Told}
 use Rattle.text_tokens.proofs.Places.{tokens_at_end}
 use Rattle.text_names.specs.declared.Table.{Table}
-use Rattle.text_names.specs.Table.{Holds, TableEmpty, VariablesRead}
-use Rattle.text_names.proofs.KeptNames.{Keeps}
+use Rattle.text_names.specs.Table.{Holds, ReadAsked, VariablesRead}
+use Rattle.text_names.proofs.Keeping.{Keeps}
 
 module _ (text : List ℕ) (i : ℕ) where
   -- THE LIST from place i on
@@ -87,40 +87,36 @@ module _ (text : List ℕ) (i : ℕ) where
   after_other Bad m k l = rw m.is
   after_other End m k l = rw m
 
--- a table whose list begins at a place
-abbrev pub listed_from : (table : Table) → (at : ℕ) → Table
-listed_from table at = record { list = at; count = table.count; rest = table.rest; hints = table.hints; names = table.names }
-
 -- WHAT IS READ before place i: the names, and they are kept
 pub record ReadBefore (text : List ℕ) (at : ℕ) (table : Table) (i : ℕ) : Type 0 where
   pub names : List Name
   pub are : listed (tokens_at text at) ≡ names ++ listed (tokens_at text i)
   pub behind : after_names (tokens_at text at) ≡ after_names (tokens_at text i)
-  pub begins : table.list ≡ at
   pub past : at ≤ i
   pub within : i ≤ length text
   pub holds : Holds text table names (listed (tokens_at text at))
 
 module _ (text : List ℕ) (at : ℕ) (table : Table) where
-  pub read_none : TableEmpty text table at → ReadBefore text at (listed_from table at) at
+  pub read_none : ReadAsked text at table → ReadBefore text at table at
   unfolding among
-  read_none q = record {
-    names = [];
-    are = refl;
-    behind = refl;
-    begins = refl;
-    past = omega arith;
-    within = q.within;
-    holds = record {
-      names = record {
-        rising = record { few = omega (arith, q.free.none_kept); rises = λ i j l h. absurd (omega (arith, q.free.none_kept)) };
-        only = λ i h. absurd (omega (arith, q.free.none_kept));
-        all = λ z n e. absurd (false≢true e);
-      };
-      hints = record { all = λ n e. absurd (false≢true e); only = λ j h t. absurd (t (q.free.no_hints j)) };
-      rest = λ place e. absurd (cc (sym q.free.none_left_out ∙ e));
-    };
-  }
+  read_none q =
+      let t = q.empty in
+      record {
+        names = [];
+        are = refl;
+        behind = refl;
+        past = omega arith;
+        within = q.within;
+        holds = record {
+          names = record {
+            rising = record { long = t.names_long; few = omega (arith, t.no_names); rises = λ i j l h. absurd (omega (arith, t.no_names)) };
+            only = λ i h. absurd (omega (arith, t.no_names));
+            all = λ z n e. absurd (false≢true e);
+          };
+          hints = record { long = t.hints_long; all = λ n e. absurd (false≢true e); only = λ j s z. absurd (cc (z, t.no_hints j)); places = λ j s z. absurd (cc (z, t.no_hints j)) };
+          rest = λ a z. absurd (cc (z, t.no_rest));
+        };
+      }
 
   module _ (i : ℕ) (r : ReadBefore text at table i) where
     pub read_more : (s e : ℕ) → Named text i s e → (z : Table) → Keeps text i (name_at text s) table z → ReadBefore text at z e
@@ -128,10 +124,9 @@ module _ (text : List ℕ) (at : ℕ) (table : Table) where
       names = r.names ++ (name_at text s ∷ []);
       are = r.are ∙ ap (λ (ns : List Name). r.names ++ ns) (listed_name text i s e m) ∙ sym (append_assoc r.names (name_at text s ∷ []) (listed (tokens_at text e)));
       behind = r.behind ∙ after_name text i s e m;
-      begins = kept.0 ∙ r.begins;
       past = omega (arith, r.past, m.moves.forth);
       within = m.moves.within;
-      holds = kept.1 r.names _ r.are r.holds;
+      holds = kept r.names _ r.are r.holds;
     }
 
     pub read_closed : length text ≤ 32768 → (e : ℕ) → Moves text i closes e → VariablesRead text at (after_names (tokens_at text at)) (Ok e) table
@@ -139,18 +134,7 @@ module _ (text : List ℕ) (at : ℕ) (table : Table) where
     read_closed short e m =
         let over = after_close text i e m in
         let are : listed (tokens_at text at) ≡ r.names = r.are ∙ ap (λ (ns : List Name). r.names ++ ns) over.0 ∙ append-nil r.names in
-        rw (r.behind ∙ over.1) (
-          e,
-          refl,
-          refl,
-          m.within,
-          record {
-            text_short = short;
-            begins = rw r.begins (omega (arith, r.past, r.within));
-            are = rw r.begins;
-            holds = rw (← are) at r.holds;
-          },
-        )
+        rw (r.behind ∙ over.1) (e, refl, refl, m.within, record { text_short = short; holds = rw (← are) at r.holds })
 
     pub read_refused : after_names (tokens_at text i) ≡ none → VariablesRead text at (after_names (tokens_at text at)) (Err BadText) table
     unfolding VariablesRead

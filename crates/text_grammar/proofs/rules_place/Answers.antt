@@ -1,7 +1,6 @@
 -- `text_grammar::rules_place` meets its contract: the word and the variables, then the rules behind them.
-use Rattle.texts.specs.Spelling.{VAR}
 use Rattle.std.proofs.lemmas.Result.{err_from_is_err_and}
-use Rattle.text_grammar.proofs.Sections.{place_told, later, names_told, table_empty, no_variables, bad_variables, text_told}
+use Rattle.text_grammar.proofs.Sections.{place_told, names_told, no_variables, bad_variables, text_told}
 use Rattle.text_grammar.proofs.rules_place.Goals as goal
 
 pub returns-in_err-a : goal.returns-in_err-a
@@ -12,7 +11,7 @@ returns-in_err-a c =
 pub read_variables-requires : goal.read_variables-requires
 read_variables-requires c =
     let found = place_told _ _ _ c.in_ok-a.ensures in
-    table_empty _ _ _ c.requires found.1 (later c.args.text.now VAR _ found.0)
+    record { text_short = c.requires.text_short; within = found.1; empty = c.requires.empty }
 
 pub returns-in_err-b : goal.returns-in_err-b
 returns-in_err-b c =

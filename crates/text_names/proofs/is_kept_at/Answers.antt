@@ -3,10 +3,10 @@ use borrow.Author.Tests.{lt-ltb, le-ltb}
 use Rattle.text_names.specs.Table.{kept, is_kept_at}
 use Rattle.text_names.proofs.is_kept_at.Goals as goal
 
-pub returns-then-k-table : goal.returns-then-k-table
+pub returns-then-k-from : goal.returns-then-k-from
 unfolding kept is_kept_at
-returns-then-k-table c = rw (lt-ltb _ _ c.if-k-table.true, ← c.from.ensures) c.same_name.ensures
+returns-then-k-from c = rw (lt-ltb _ _ (rw c.from.ensures at c.if-k-from.true), ← c.from-then-k-from.ensures) c.same_name.ensures
 
-pub returns-else-k-table : goal.returns-else-k-table
+pub returns-else-k-from : goal.returns-else-k-from
 unfolding is_kept_at
-returns-else-k-table c = rw (le-ltb _ _ c.if-k-table.false)
+returns-else-k-from c = rw (c.from.ensures, le-ltb _ _ (rw c.from.ensures at c.if-k-from.false))

@@ -22,7 +22,6 @@ keep-requires c =
       text_short = q.text_short;
       within = omega (arith, m.some, m.moves.within);
       from = m.from;
-      later = omega (arith, q.later, l.invariant.past);
       names = l.invariant.names;
       list = _;
       holds = l.invariant.holds;

@@ -2,9 +2,8 @@
 use mathlib.Core.Path.{sym, ◌∙◌}
 use Prim.Native.Nat.{ℕ, ◌+◌, ◌/◌, ◌≤◌, ◌<◌}
 use native.Mathlib.Omega.{arith}
-use lib.ListN.{get_or}
 use Rattle.text_names.specs.Table.{most_kept, kept}
-use Rattle.text_names.proofs.KeptNames.{less_up_to, not_from}
+use Rattle.text_names.proofs.Keeping.{less_up_to, not_from}
 use Rattle.text_names.proofs.search.Goals as goal
 
 pub loop-lo-init : goal.loop-lo-init
@@ -14,25 +13,6 @@ pub overflow_add-m : goal.overflow_add-m
 overflow_add-m c =
     let few : c.loop-lo.hi ≤ most_kept = omega (arith, c.loop-lo.invariant.1, c.requires.rising.few) in
     omega (arith, few, c.loop-lo-test.true)
-
-pub offset_bounds-table-m : goal.offset_bounds-table-m
-offset_bounds-table-m c =
-    let few : c.loop-lo.hi ≤ most_kept = omega (arith, c.loop-lo.invariant.1, c.requires.rising.few) in
-    omega (arith, few, c.loop-lo-test.true)
-
-pub bounds-table-m : goal.bounds-table-m
-bounds-table-m c =
-    let few : c.loop-lo.hi ≤ most_kept = omega (arith, c.loop-lo.invariant.1, c.requires.rising.few) in
-    let middle : ℕ = (c.loop-lo.lo + c.loop-lo.hi) / 2 in
-    let within : middle < c.args.table.now.count = omega (arith, c.loop-lo-test.true, c.loop-lo.invariant.1) in
-    omega (arith, within, few, c.requires.rising.few)
-
-pub less_name-requires : goal.less_name-requires
-less_name-requires c =
-    let middle : ℕ = (c.loop-lo.lo + c.loop-lo.hi) / 2 in
-    let small : get_or c.args.table.now.names middle 0 < 65536 = omega (arith, c.type_inv.table) in
-    let q = c.requires in
-    record { text_short = q.text_short; left_small = omega (arith, small); right_small = omega (arith, q.within, q.text_short) }
 
 pub overflow_add-lo : goal.overflow_add-lo
 overflow_add-lo c =
@@ -52,7 +32,7 @@ loop-lo-preserved-then-less_name c =
     let q = c.requires in (
       omega (arith, c.loop-lo-test.true),
       l.invariant.1,
-      less_up_to _ _ _ q.rising middle within _ (omega arith) (rw is at (sym c.less_name.ensures ∙ c.if-less_name.true)),
+      less_up_to _ _ _ _ q.rising middle within _ (omega arith) (rw is at (sym c.less_name.ensures ∙ c.if-less_name.true)),
       l.invariant.3,
     )
 
@@ -70,7 +50,7 @@ loop-lo-preserved c =
       omega (arith, c.loop-lo-test.true),
       omega (arith, within),
       l.invariant.2,
-      not_from _ _ _ q.rising middle within (rw is at (sym c.less_name.ensures ∙ c.if-less_name.false)),
+      not_from _ _ _ _ q.rising middle within (rw is at (sym c.less_name.ensures ∙ c.if-less_name.false)),
     )
 
 pub returns : goal.returns

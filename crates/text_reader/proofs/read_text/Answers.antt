@@ -29,7 +29,7 @@ pub returns-then-text-gt-MOST_TEXT_BYTES : goal.returns-then-text-gt-MOST_TEXT_B
 returns-then-text-gt-MOST_TEXT_BYTES c = refuses _ _ _ _ _ _ _ refl (too_long _ [] [] [] c.if-text-gt-MOST_TEXT_BYTES.true)
 
 pub rules_place-requires : goal.rules_place-requires
-rules_place-requires c = record { text_short = c.if-text-gt-MOST_TEXT_BYTES.false; free = c.new-table.ensures }
+rules_place-requires c = record { text_short = c.if-text-gt-MOST_TEXT_BYTES.false; empty = c.new-table.ensures }
 
 pub returns-in_err-at : goal.returns-in_err-at
 returns-in_err-at c =
