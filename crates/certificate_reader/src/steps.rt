@@ -24,7 +24,7 @@ const MOST_WEIGHTINGS: u16 = 8;
 fn key(a: u16, b: u16) -> u64
     ensures { KeyIs a b result }
 {
-    65536 * (a as u64) + (b as u64) + 1
+    65536 * u64::from(a) + u64::from(b) + 1
 }
 
 // How many of a component's weightings C itself begins: the first, if there is one.
@@ -48,7 +48,7 @@ fn component(r: Record, s: State) -> Result<State, Refusal>
     if r.one != 0 {
         return Err(Refusal::StrayRecord);
     }
-    if r.a as usize != s.number {
+    if usize::from(r.a) != s.number {
         return Err(Refusal::StrayRecord);
     }
     if r.b == 0 {
@@ -69,10 +69,10 @@ fn component(r: Record, s: State) -> Result<State, Refusal>
     Ok(State {
         last: Before::Component,
         number: s.number + 1,
-        due: r.c as usize,
+        due: usize::from(r.c),
         weighted: r.b != 0,
-        more: (r.b - begun) as usize,
-        begun: begun as usize,
+        more: usize::from(r.b - begun),
+        begun: usize::from(begun),
         pair_key: 0,
         weight_key: 0,
         marked_key: 0,
@@ -94,7 +94,7 @@ fn pair(r: Record, s: State, pack: &PackView) -> Result<State, Refusal>
     if k <= s.pair_key {
         return Err(Refusal::StrayRecord);
     }
-    let Ok(_) = pair_finder::arcs::place_of(pack, r.a as usize, r.b as usize) else {
+    let Ok(_) = pair_finder::arcs::place_of(pack, usize::from(r.a), usize::from(r.b)) else {
         return Err(Refusal::NoSuchPair);
     };
     Ok(State {
@@ -110,7 +110,7 @@ fn is_place(pack: &PackView, f: Symbol, i: u16) -> bool
     requires { PlaceAsked pack.now.symbols pack.now.arities.now }
     ensures { result ≡ (ltb f.0 pack.now.symbols && leb i (get_or pack.now.arities.now f.0 0)) }
 {
-    let a = f.0 as usize;
+    let a = usize::from(f.0);
     if pack.symbols <= a {
         return false;
     }
@@ -182,7 +182,7 @@ fn weighting(r: Record, s: State) -> Result<State, Refusal>
     if r.one != 0 {
         return Err(Refusal::StrayRecord);
     }
-    if r.a as usize != s.begun {
+    if usize::from(r.a) != s.begun {
         return Err(Refusal::StrayRecord);
     }
     if r.b != 0 {

@@ -30,16 +30,16 @@ returns-then-r-ne0 c =
       means = λ x m k. rw (none_missing _ x m c.if-s-ne0.false, ne_eqb _ _ c.if-r-ne0.true) (stops StrayRecord);
     }
 
-pub returns-then-r-s : goal.returns-then-r-s
+pub returns-then-from-s : goal.returns-then-from-s
 unfolding component_read
-returns-then-r-s c =
+returns-then-from-s c =
     let r : Record = c.args.r in
     let s : State = c.args.s in
     let no_more : (x : CertificateReading) → Mirrors s x → eqb x.more 0 ≡ true = (λ x m. none_missing s x m c.if-s-ne0.false) in
     let zero_one : eqb r.one 0 ≡ true = eq-eqb _ _ c.if-r-ne0.false in
     record {
       on = no_state _ StrayRecord;
-      means = λ x m k. rw (no_more x m, zero_one, ← m.number_is, ne_eqb _ _ c.if-r-s.true) (stops StrayRecord);
+      means = λ x m k. rw (no_more x m, zero_one, ← m.number_is, ne_eqb _ _ (rw c.from.ensures at c.if-from-s.true)) (stops StrayRecord);
     }
 
 pub returns-then-r-gt1 : goal.returns-then-r-gt1
@@ -52,7 +52,7 @@ returns-then-r-gt1 c =
     record {
       on = no_state _ StrayRecord;
       means = λ x m k.
-          rw (no_more x m, zero_one, ← m.number_is, eq-eqb _ _ c.if-r-s.false, eq-eqb _ _ c.if-r-eq0.true, lt-ltb _ _ c.if-r-gt1.true)
+          rw (no_more x m, zero_one, ← m.number_is, eq-eqb _ _ (rw c.from.ensures at c.if-from-s.false), eq-eqb _ _ c.if-r-eq0.true, lt-ltb _ _ c.if-r-gt1.true)
           (stops StrayRecord);
     }
 
@@ -65,7 +65,7 @@ returns-then-r-gt-MOST_WEIGHTINGS c =
     let zero_one : eqb r.one 0 ≡ true = eq-eqb _ _ c.if-r-ne0.false in
     let alone : r.b ≡ 0 → r.c ≤ 1 = (λ z. ⊎_elim (λ w. w.if-r-gt1.false) (λ w. absurd (w.if-r-eq0.false z)) c.if-r-eq0.branch-raw) in
     let no_stray : (x : CertificateReading) → Mirrors s x →
-    (eqb x.more 0 && (eqb r.one 0 && eqb r.a (length (components_of x)))) && not (eqb r.b 0 && ltb 1 r.c) ≡ true = (λ x m. rw (no_more x m, zero_one, ← m.number_is, eq-eqb _ _ c.if-r-s.false, counts_alone r.b r.c alone)) in
+    (eqb x.more 0 && (eqb r.one 0 && eqb r.a (length (components_of x)))) && not (eqb r.b 0 && ltb 1 r.c) ≡ true = (λ x m. rw (no_more x m, zero_one, ← m.number_is, eq-eqb _ _ (rw c.from.ensures at c.if-from-s.false), counts_alone r.b r.c alone)) in
     record { on = no_state _ OutOfRange; means = λ x m k. rw (no_stray x m, lt-leb _ _ c.if-r-gt-MOST_WEIGHTINGS.true) (stops OutOfRange) }
 
 pub returns-then-r-lt1 : goal.returns-then-r-lt1
@@ -77,7 +77,7 @@ returns-then-r-lt1 c =
     let zero_one : eqb r.one 0 ≡ true = eq-eqb _ _ c.if-r-ne0.false in
     let alone : r.b ≡ 0 → r.c ≤ 1 = (λ z. ⊎_elim (λ w. w.if-r-gt1.false) (λ w. absurd (w.if-r-eq0.false z)) c.if-r-eq0.branch-raw) in
     let no_stray : (x : CertificateReading) → Mirrors s x →
-    (eqb x.more 0 && (eqb r.one 0 && eqb r.a (length (components_of x)))) && not (eqb r.b 0 && ltb 1 r.c) ≡ true = (λ x m. rw (no_more x m, zero_one, ← m.number_is, eq-eqb _ _ c.if-r-s.false, counts_alone r.b r.c alone)) in
+    (eqb x.more 0 && (eqb r.one 0 && eqb r.a (length (components_of x)))) && not (eqb r.b 0 && ltb 1 r.c) ≡ true = (λ x m. rw (no_more x m, zero_one, ← m.number_is, eq-eqb _ _ (rw c.from.ensures at c.if-from-s.false), counts_alone r.b r.c alone)) in
     record { on = no_state _ OutOfRange; means = λ x m k. rw (no_stray x m, le-leb _ _ c.if-r-gt-MOST_WEIGHTINGS.false, lt-leb _ _ c.if-r-lt1.true) (stops OutOfRange) }
 
 pub returns-then-r-gt-MOST_PAIRS : goal.returns-then-r-gt-MOST_PAIRS
@@ -89,7 +89,7 @@ returns-then-r-gt-MOST_PAIRS c =
     let zero_one : eqb r.one 0 ≡ true = eq-eqb _ _ c.if-r-ne0.false in
     let alone : r.b ≡ 0 → r.c ≤ 1 = (λ z. ⊎_elim (λ w. w.if-r-gt1.false) (λ w. absurd (w.if-r-eq0.false z)) c.if-r-eq0.branch-raw) in
     let no_stray : (x : CertificateReading) → Mirrors s x →
-    (eqb x.more 0 && (eqb r.one 0 && eqb r.a (length (components_of x)))) && not (eqb r.b 0 && ltb 1 r.c) ≡ true = (λ x m. rw (no_more x m, zero_one, ← m.number_is, eq-eqb _ _ c.if-r-s.false, counts_alone r.b r.c alone)) in
+    (eqb x.more 0 && (eqb r.one 0 && eqb r.a (length (components_of x)))) && not (eqb r.b 0 && ltb 1 r.c) ≡ true = (λ x m. rw (no_more x m, zero_one, ← m.number_is, eq-eqb _ _ (rw c.from.ensures at c.if-from-s.false), counts_alone r.b r.c alone)) in
     record {
       on = no_state _ OutOfRange;
       means = λ x m k. rw (no_stray x m, le-leb _ _ c.if-r-gt-MOST_WEIGHTINGS.false, le-leb _ _ c.if-r-lt1.false, lt-leb _ _ c.if-r-gt-MOST_PAIRS.true) (stops OutOfRange);
@@ -104,9 +104,9 @@ returns c =
     let zero_one : eqb r.one 0 ≡ true = eq-eqb _ _ c.if-r-ne0.false in
     let alone : r.b ≡ 0 → r.c ≤ 1 = (λ z. ⊎_elim (λ w. w.if-r-gt1.false) (λ w. absurd (w.if-r-eq0.false z)) c.if-r-eq0.branch-raw) in
     let no_stray : (x : CertificateReading) → Mirrors s x →
-    (eqb x.more 0 && (eqb r.one 0 && eqb r.a (length (components_of x)))) && not (eqb r.b 0 && ltb 1 r.c) ≡ true = (λ x m. rw (no_more x m, zero_one, ← m.number_is, eq-eqb _ _ c.if-r-s.false, counts_alone r.b r.c alone)) in
+    (eqb x.more 0 && (eqb r.one 0 && eqb r.a (length (components_of x)))) && not (eqb r.b 0 && ltb 1 r.c) ≡ true = (λ x m. rw (no_more x m, zero_one, ← m.number_is, eq-eqb _ _ (rw c.from.ensures at c.if-from-s.false), counts_alone r.b r.c alone)) in
     let first = c.first-begun.ensures.0 in
-    record {
+    rw (c.from-2.ensures, c.from-3.ensures, c.from-4.ensures) record {
       on = after_component _ _ refl c.if-r-lt1.false refl (omega (arith, first, first_few r.b));
       means = λ x m k.
           rw (no_stray x m, le-leb _ _ c.if-r-gt-MOST_WEIGHTINGS.false, le-leb _ _ c.if-r-lt1.false, le-leb _ _ c.if-r-gt-MOST_PAIRS.false, k)

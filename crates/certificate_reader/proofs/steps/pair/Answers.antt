@@ -62,7 +62,7 @@ returns-in_default c =
     record {
       on = no_state _ NoSuchPair;
       means = λ p x d stored m is kind.
-          let none : is_pair p (a_pair c.args.r.a c.args.r.b) ≡ false = not_named _ _ _ (c.place_of.ensures p _ _ stored) c.in_default.not-Ok in
+          let none : is_pair p (a_pair c.args.r.a c.args.r.b) ≡ false = not_named _ _ _ ((rw (c.from.ensures, c.from-2.ensures) at c.place_of.ensures) p _ _ stored) c.in_default.not-Ok in
           rw (zeros, by_key _ _ _ _ _ _ _ (pairs_told _ x d is m) small c.key-k.ensures.is, lt-ltb _ _ c.if-k-s.false, none) (stops NoSuchPair);
     }
 
@@ -74,7 +74,7 @@ returns c =
     record {
       on = after_pair _ _ refl refl refl;
       means = λ p x d stored m is kind.
-          let one : is_pair p (a_pair c.args.r.a c.args.r.b) ≡ true = named _ _ (c.place_of.ensures p _ _ stored) _ c.in-Ok.is in
+          let one : is_pair p (a_pair c.args.r.a c.args.r.b) ≡ true = named _ _ ((rw (c.from.ensures, c.from-2.ensures) at c.place_of.ensures) p _ _ stored) _ c.in-Ok.is in
           rw (zeros, by_key _ _ _ _ _ _ _ (pairs_told _ x d is m) small c.key-k.ensures.is, lt-ltb _ _ c.if-k-s.false, one, kind)
           (answers _ _ (pair_mirrored _ x d is m _ _ _ c.key-k.ensures.is small));
     }

@@ -21,12 +21,12 @@ unfolding weighting_read
 returns-then-r-ne0 c =
     record { on = no_state _ StrayRecord; means = λ x d m is due kind. rw (ne_eqb _ _ c.if-r-ne0.true) (stops StrayRecord) }
 
-pub returns-then-r-s : goal.returns-then-r-s
+pub returns-then-from-s : goal.returns-then-from-s
 unfolding weighting_read
-returns-then-r-s c =
+returns-then-from-s c =
     record {
       on = no_state _ StrayRecord;
-      means = λ x d m is due kind. rw (eq-eqb _ _ c.if-r-ne0.false, ← (begun_counted _ x d is m), ne_eqb _ _ c.if-r-s.true) (stops StrayRecord);
+      means = λ x d m is due kind. rw (eq-eqb _ _ c.if-r-ne0.false, ← (begun_counted _ x d is m), ne_eqb _ _ (rw c.from.ensures at c.if-from-s.true)) (stops StrayRecord);
     }
 
 pub returns-then-r-ne0-2 : goal.returns-then-r-ne0-2
@@ -34,7 +34,7 @@ unfolding weighting_read
 returns-then-r-ne0-2 c =
     let r : Record = c.args.r in
     let numbered : (x : CertificateReading) (d : Component) → x.begun ≡ some d → Mirrors c.args.s x →
-    eqb r.one 0 && eqb r.a (length d.weightings) ≡ true = (λ x d is m. rw (eq-eqb _ _ c.if-r-ne0.false, eq-eqb _ _ (c.if-r-s.false ∙ begun_counted _ x d is m))) in
+    eqb r.one 0 && eqb r.a (length d.weightings) ≡ true = (λ x d is m. rw (eq-eqb _ _ c.if-r-ne0.false, eq-eqb _ _ (sym c.from.ensures ∙ c.if-from-s.false ∙ begun_counted _ x d is m))) in
     record {
       on = no_state _ StrayRecord;
       means = λ x d m is due kind. rw (numbered x d is m, ne_eqb _ _ c.if-r-ne0-2.true) (stops StrayRecord);
@@ -45,7 +45,7 @@ unfolding weighting_read
 returns-then-r-ne0-3 c =
     let r : Record = c.args.r in
     let numbered : (x : CertificateReading) (d : Component) → x.begun ≡ some d → Mirrors c.args.s x →
-    eqb r.one 0 && eqb r.a (length d.weightings) ≡ true = (λ x d is m. rw (eq-eqb _ _ c.if-r-ne0.false, eq-eqb _ _ (c.if-r-s.false ∙ begun_counted _ x d is m))) in
+    eqb r.one 0 && eqb r.a (length d.weightings) ≡ true = (λ x d is m. rw (eq-eqb _ _ c.if-r-ne0.false, eq-eqb _ _ (sym c.from.ensures ∙ c.if-from-s.false ∙ begun_counted _ x d is m))) in
     record {
       on = no_state _ StrayRecord;
       means = λ x d m is due kind. rw (numbered x d is m, eq-eqb _ _ c.if-r-ne0-2.false, ne_eqb _ _ c.if-r-ne0-3.true) (stops StrayRecord);
@@ -56,7 +56,7 @@ unfolding weighting_read
 returns-then-s-eq0 c =
     let r : Record = c.args.r in
     let numbered : (x : CertificateReading) (d : Component) → x.begun ≡ some d → Mirrors c.args.s x →
-    eqb r.one 0 && eqb r.a (length d.weightings) ≡ true = (λ x d is m. rw (eq-eqb _ _ c.if-r-ne0.false, eq-eqb _ _ (c.if-r-s.false ∙ begun_counted _ x d is m))) in
+    eqb r.one 0 && eqb r.a (length d.weightings) ≡ true = (λ x d is m. rw (eq-eqb _ _ c.if-r-ne0.false, eq-eqb _ _ (sym c.from.ensures ∙ c.if-from-s.false ∙ begun_counted _ x d is m))) in
     let zeros : eqb r.b 0 && eqb r.c 0 ≡ true = rw (eq-eqb _ _ c.if-r-ne0-2.false, eq-eqb _ _ c.if-r-ne0-3.false) in
     record {
       on = no_state _ StrayRecord;
@@ -73,7 +73,7 @@ unfolding weighting_read index
 returns c =
     let r : Record = c.args.r in
     let numbered : (x : CertificateReading) (d : Component) → x.begun ≡ some d → Mirrors c.args.s x →
-    eqb r.one 0 && eqb r.a (length d.weightings) ≡ true = (λ x d is m. rw (eq-eqb _ _ c.if-r-ne0.false, eq-eqb _ _ (c.if-r-s.false ∙ begun_counted _ x d is m))) in
+    eqb r.one 0 && eqb r.a (length d.weightings) ≡ true = (λ x d is m. rw (eq-eqb _ _ c.if-r-ne0.false, eq-eqb _ _ (sym c.from.ensures ∙ c.if-from-s.false ∙ begun_counted _ x d is m))) in
     let zeros : eqb r.b 0 && eqb r.c 0 ≡ true = rw (eq-eqb _ _ c.if-r-ne0-2.false, eq-eqb _ _ c.if-r-ne0-3.false) in
     let has = c.requires.weighted in
     record {
