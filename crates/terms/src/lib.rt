@@ -27,9 +27,9 @@ pub fn code_arity(arities: &[u8], code: u8) -> usize
     requires { length arities.now ≡ symbols_room }
     ensures { (result ≡ code_arity arities.now code) × (result < 256) }
 {
-    let c = code as usize;
+    let c = usize::from(code);
     if c < MOST_SYMBOLS {
-        return arities[c] as usize;
+        return usize::from(arities[c]);
     }
     0
 }

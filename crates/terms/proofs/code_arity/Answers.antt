@@ -6,8 +6,9 @@ use Rattle.terms.proofs.code_arity.Goals as goal
 
 pub returns-then-c-lt-MOST_SYMBOLS : goal.returns-then-c-lt-MOST_SYMBOLS
 unfolding code_arity
-returns-then-c-lt-MOST_SYMBOLS c = (rw (lt-ltb _ _ c.if-c-lt-MOST_SYMBOLS.true), omega (arith, c.type_inv.arities c.args.code))
+returns-then-c-lt-MOST_SYMBOLS c =
+    (rw (c.from.ensures, c.from-c.ensures, lt-ltb _ _ (rw c.from-c.ensures at c.if-c-lt-MOST_SYMBOLS.true)), omega (arith, c.from.ensures, c.type_inv.arities c.from-c.result))
 
 pub returns : goal.returns
 unfolding code_arity
-returns c = (rw (le-ltb _ _ c.if-c-lt-MOST_SYMBOLS.false), omega arith)
+returns c = (rw (le-ltb _ _ (rw c.from-c.ensures at c.if-c-lt-MOST_SYMBOLS.false)), omega arith)
