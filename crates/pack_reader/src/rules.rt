@@ -21,7 +21,7 @@ fn header(r: Record, i: usize) -> Result<(), Refusal>
     if r.one != 0 {
         return Err(Refusal::StrayRecord);
     }
-    if r.a as usize != i {
+    if usize::from(r.a) != i {
         return Err(Refusal::StrayRecord);
     }
     if MOST_RULES <= i {
@@ -103,8 +103,8 @@ pub fn read_rules(
             return Err(Refusal::StrayRecord);
         };
         header(r, i)?;
-        let b = r.b as usize;
-        let c = r.c as usize;
+        let b = usize::from(r.b);
+        let c = usize::from(r.c);
         last = read_rule(pack, at + 1, b, c, symbols, arities, nodes, base)?;
         let end = base + b + c;
         keep_ends(starts, i, base + b, end);
@@ -126,8 +126,8 @@ pub fn flag_defined(starts: &[u16], nodes: &[u8], rules: usize, defined: &mut [u
 {
     defined.fill(0);
     for i in 0..rules {
-        let at = starts[2 * i] as usize;
-        let c = nodes[at] as usize;
+        let at = usize::from(starts[2 * i]);
+        let c = usize::from(nodes[at]);
         if c < MOST_SYMBOLS {
             defined[c] = 1;
         }

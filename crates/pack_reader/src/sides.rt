@@ -20,9 +20,9 @@ fn left_side(arities: &[u8], nodes: &[u8], from: usize, to: usize, seen: &mut [b
         if wanted == 0 {
             return false;
         }
-        let c = nodes[i] as usize;
+        let c = usize::from(nodes[i]);
         if c < MOST_SYMBOLS {
-            wanted = wanted + arities[c] as usize;
+            wanted = wanted + usize::from(arities[c]);
         } else if c < PAST_VARIABLES {
             seen[c - MOST_SYMBOLS] = true;
         }
@@ -42,9 +42,9 @@ fn right_side(arities: &[u8], nodes: &[u8], from: usize, to: usize, seen: &[bool
         if wanted == 0 {
             return None;
         }
-        let c = nodes[i] as usize;
+        let c = usize::from(nodes[i]);
         if c < MOST_SYMBOLS {
-            wanted = wanted + arities[c] as usize;
+            wanted = wanted + usize::from(arities[c]);
         } else if PAST_VARIABLES <= c {
             closed = false;
         } else if !seen[c - MOST_SYMBOLS] {

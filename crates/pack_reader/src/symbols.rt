@@ -21,7 +21,7 @@ fn arity_of(r: Record, i: usize) -> Result<u8, Refusal>
     if r.c != 0 {
         return Err(Refusal::StrayRecord);
     }
-    if r.a as usize != i {
+    if usize::from(r.a) != i {
         return Err(Refusal::StrayRecord);
     }
     if MOST_SYMBOLS <= i {

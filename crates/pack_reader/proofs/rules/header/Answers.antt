@@ -8,9 +8,9 @@ pub returns-then-r-ne0 : goal.returns-then-r-ne0
 unfolding rule_header side_count
 returns-then-r-ne0 c = search tests
 
-pub returns-then-r-i : goal.returns-then-r-i
+pub returns-then-from-i : goal.returns-then-from-i
 unfolding rule_header side_count
-returns-then-r-i c = search tests
+returns-then-from-i c = search tests
 
 pub returns-then-i-ge-MOST_RULES : goal.returns-then-i-ge-MOST_RULES
 unfolding rule_header side_count

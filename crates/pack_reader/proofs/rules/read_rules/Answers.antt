@@ -66,7 +66,7 @@ returns-in_err-last c =
     let asked = c.requires in
     refuses _ _ _ _ _ _ (ap outcome_of (handed_on c.from_residual-in_err-last.result c.from_residual-in_err-last.ensures.1))
     (rule_refuses _ _ _ (omega arith) _ _ _ l.at l.base l.i l.invariant.4 c.loop-at-test.true c.in-Some.r (sym c.read_wanted.ensures ∙ c.in-Some.is) asked.no_symbol_more asked.symbols_few _ (sym c.in_ok-header.ensures)
-    _ _ c.read_rule.ensures _ (ap row_outcome c.in_err-last.was))
+    _ _ (rw (c.from-b.ensures, c.from-c.ensures) at c.read_rule.ensures) _ (ap row_outcome c.in_err-last.was))
 
 pub keep_ends-requires : goal.keep_ends-requires
 keep_ends-requires c =
@@ -83,9 +83,9 @@ loop-at-preserved c =
       omega arith,
       rw c.keep_ends.ensures (simp length-set l.invariant.2),
       omega (arith, c.read_rule.auto),
-      rw c.keep_ends.ensures
+      rw (c.keep_ends.ensures, c.from-b.ensures, c.from-c.ensures)
           (more _ _ _ (omega arith) _ _ _ l.at l.base l.i l.invariant.4 c.loop-at-test.true c.in-Some.r (sym c.read_wanted.ensures ∙ c.in-Some.is) asked.no_symbol_more asked.symbols_few _ (sym c.in_ok-header.ensures)
-          _ _ c.read_rule.ensures _ (ap row_outcome c.in_ok-last.was) (omega arith)),
+          _ _ (rw (c.from-b.ensures, c.from-c.ensures) at c.read_rule.ensures) _ (ap row_outcome c.in_ok-last.was) (omega arith)),
     )
 
 pub returns-then-may_end : goal.returns-then-may_end

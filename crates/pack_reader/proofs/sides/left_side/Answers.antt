@@ -36,16 +36,8 @@ returns-then-wanted-eq0 c =
       variables = λ e. absurd (false≢true e);
     }
 
-pub overflow_cast-c : goal.overflow_cast-c
-overflow_cast-c c = omega (arith, c.type_inv.nodes c.loop-i.i)
-
-pub overflow_cast-wanted : goal.overflow_cast-wanted
-overflow_cast-wanted c =
-    omega (arith, c.shared_slice_known-then-c-lt-MOST_SYMBOLS-1.given (get_or c.args.nodes.now c.loop-i.i 0))
-
 pub overflow_add-wanted : goal.overflow_add-wanted
-overflow_add-wanted c =
-    omega (arith, c.shared_slice_known-then-c-lt-MOST_SYMBOLS-1.given (get_or c.args.nodes.now c.loop-i.i 0))
+overflow_add-wanted c = omega (arith, c.from-wanted.ensures, c.type_inv.arities c.from-c.result)
 
 pub overflow_sub-wanted : goal.overflow_sub-wanted
 overflow_sub-wanted c =
@@ -54,16 +46,17 @@ overflow_sub-wanted c =
 pub loop-i-preserved : goal.loop-i-preserved
 loop-i-preserved c =
     let l = c.loop-i in
+    let is = c.from-c.ensures in
     let n = c.args.nodes.now in
     let inside : l.i < length n = omega arith in
     let symbol = symbol_read _ _ _ _ _ _ l.invariant.0 (omega arith) (omega arith) c.if-wanted-eq0.false in
     let variable = variable_read _ _ _ _ _ _ l.invariant.0 (omega arith) (omega arith) c.if-wanted-eq0.false in
     let same = at_other _ _ _ _ l.invariant.0.0 inside l.invariant.1 in
     ⊎_elim
-    (λ w. rw (w.seen-is, w.wanted-is) (symbol w.if-c-lt-MOST_SYMBOLS.true (omega (arith, w.shared_slice_known-then-c-lt-MOST_SYMBOLS-1.given (get_or n l.i 0))), same (λ v h e. omega (arith, w))))
+    (λ w. rw (w.seen-is, w.wanted-is, w.from-wanted.ensures, is) (symbol (rw is at w.if-c-lt-MOST_SYMBOLS.true) (omega (arith, c.type_inv.arities (get_or n l.i 0))), same (λ v h e. omega (arith, w))))
     (⊎_elim
-    (λ w. rw (w.seen-is, w.wanted-is) (variable w.if-c-lt-MOST_SYMBOLS.false, at_variable _ _ _ _ l.invariant.0.0 inside l.invariant.1 w.if-c-lt-MOST_SYMBOLS.false w.if-c-lt-PAST_VARIABLES.true))
-    (λ w. rw (w.seen-is, w.wanted-is) (variable w.if-c-lt-MOST_SYMBOLS.false, same (λ v h e. omega (arith, w)))))
+    (λ w. rw (w.seen-is, w.wanted-is, is) (variable (rw is at w.if-c-lt-MOST_SYMBOLS.false), at_variable _ _ _ _ l.invariant.0.0 inside l.invariant.1 (rw is at w.if-c-lt-MOST_SYMBOLS.false) (rw is at w.if-c-lt-PAST_VARIABLES.true)))
+    (λ w. rw (w.seen-is, w.wanted-is) (variable (rw is at w.if-c-lt-MOST_SYMBOLS.false), same (λ v h e. omega (arith, w)))))
     c.if-c-lt-MOST_SYMBOLS.branch-raw
 
 pub returns : goal.returns

@@ -46,16 +46,8 @@ loop-i-init c = ((omega arith, omega arith, omega arith, refl), refl)
 pub returns-then-wanted-eq0 : goal.returns-then-wanted-eq0
 returns-then-wanted-eq0 c = sym (too_many _ _ _ _ _ _ c.loop-i.invariant.0 (omega arith) (omega arith) c.if-wanted-eq0.true)
 
-pub overflow_cast-c : goal.overflow_cast-c
-overflow_cast-c c = omega (arith, c.type_inv.nodes c.loop-i.i)
-
-pub overflow_cast-wanted : goal.overflow_cast-wanted
-overflow_cast-wanted c =
-    omega (arith, c.shared_slice_known-then-c-lt-MOST_SYMBOLS-1.given (get_or c.args.nodes.now c.loop-i.i 0))
-
 pub overflow_add-wanted : goal.overflow_add-wanted
-overflow_add-wanted c =
-    omega (arith, c.shared_slice_known-then-c-lt-MOST_SYMBOLS-1.given (get_or c.args.nodes.now c.loop-i.i 0))
+overflow_add-wanted c = omega (arith, c.from-wanted.ensures, c.type_inv.arities c.from-c.result)
 
 pub overflow_sub-wanted : goal.overflow_sub-wanted
 overflow_sub-wanted c =
@@ -64,17 +56,18 @@ overflow_sub-wanted c =
 pub loop-i-preserved : goal.loop-i-preserved
 loop-i-preserved c =
     let l = c.loop-i in
+    let is = c.from-c.ensures in
     let a = c.args in
     let inside : a.to ≤ length a.nodes.now = omega arith in
     let symbol = symbol_read _ _ _ _ _ _ l.invariant.0 (omega arith) inside c.if-wanted-eq0.false in
     let variable = variable_read _ _ _ _ _ _ l.invariant.0 (omega arith) inside c.if-wanted-eq0.false in
     ⊎_elim
-    (λ w. rw (w.wanted-is, w.closed-is) (symbol w.if-c-lt-MOST_SYMBOLS.true (omega (arith, w.shared_slice_known-then-c-lt-MOST_SYMBOLS-1.given (get_or a.nodes.now l.i 0))), at_symbol _ _ _ _ _ l.closed l.invariant.1 (omega arith) inside w.if-c-lt-MOST_SYMBOLS.true))
+    (λ w. rw (w.wanted-is, w.closed-is, w.from-wanted.ensures, is) (symbol (rw is at w.if-c-lt-MOST_SYMBOLS.true) (omega (arith, c.type_inv.arities (get_or a.nodes.now l.i 0))), at_symbol _ _ _ _ _ l.closed l.invariant.1 (omega arith) inside (rw is at w.if-c-lt-MOST_SYMBOLS.true)))
     (⊎_elim
-    (λ w. rw (w.wanted-is, w.closed-is) (variable w.if-c-lt-MOST_SYMBOLS.false, at_neither _ _ _ _ _ l.closed l.invariant.1 (omega arith) inside (omega arith) w.if-c-ge-PAST_VARIABLES.true))
+    (λ w. rw (w.wanted-is, w.closed-is) (variable (rw is at w.if-c-lt-MOST_SYMBOLS.false), at_neither _ _ _ _ _ l.closed l.invariant.1 (omega arith) inside (omega arith) (rw is at w.if-c-ge-PAST_VARIABLES.true)))
     (⊎_elim
-    (λ w. rw (w.wanted-is, w.closed-is) (variable w.if-c-lt-MOST_SYMBOLS.false, at_unflagged _ _ _ _ _ l.closed l.invariant.1 (omega arith) inside w.if-c-lt-MOST_SYMBOLS.false (w.if-not-seen-c.true)))
-    (λ w. rw (w.wanted-is, w.closed-is) (variable w.if-c-lt-MOST_SYMBOLS.false, at_flagged _ _ _ _ _ l.closed l.invariant.1 (omega arith) inside w.if-c-lt-MOST_SYMBOLS.false (w.if-not-seen-c.false)))))
+    (λ w. rw (w.wanted-is, w.closed-is) (variable (rw is at w.if-c-lt-MOST_SYMBOLS.false), at_unflagged _ _ _ _ _ l.closed l.invariant.1 (omega arith) inside (rw is at w.if-c-lt-MOST_SYMBOLS.false) (rw is at w.if-not-seen-c.true)))
+    (λ w. rw (w.wanted-is, w.closed-is) (variable (rw is at w.if-c-lt-MOST_SYMBOLS.false), at_flagged _ _ _ _ _ l.closed l.invariant.1 (omega arith) inside (rw is at w.if-c-lt-MOST_SYMBOLS.false) (rw is at w.if-not-seen-c.false)))))
     c.if-c-lt-MOST_SYMBOLS.branch-raw
 
 pub returns-then-wanted-eq0-2 : goal.returns-then-wanted-eq0-2

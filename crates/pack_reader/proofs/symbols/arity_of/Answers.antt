@@ -11,9 +11,9 @@ pub returns-then-r-ne0-2 : goal.returns-then-r-ne0-2
 unfolding arity_outcome
 returns-then-r-ne0-2 c = search tests
 
-pub returns-then-r-i : goal.returns-then-r-i
+pub returns-then-from-i : goal.returns-then-from-i
 unfolding arity_outcome
-returns-then-r-i c = search tests
+returns-then-from-i c = search tests
 
 pub returns-then-i-ge-MOST_SYMBOLS : goal.returns-then-i-ge-MOST_SYMBOLS
 unfolding arity_outcome
