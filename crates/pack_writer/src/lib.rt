@@ -15,7 +15,7 @@ pub fn pack_length(pack: &Pack) -> usize
     requires { PackAsked pack.now.symbols pack.now.rules pack.now.arities pack.now.starts pack.now.nodes }
     ensures { (q : PackAsked pack.now.symbols pack.now.rules pack.now.arities pack.now.starts pack.now.nodes) → result ≡ length (pack_bytes q.system) }
 {
-    8 * (pack.symbols + pack.rules + pack.starts[2 * pack.rules] as usize)
+    8 * (pack.symbols + pack.rules + usize::from(pack.starts[2 * pack.rules]))
 }
 
 // Writes the symbols' records from byte 0 on. Answers the byte after them.
@@ -31,7 +31,7 @@ fn write_symbols(out: &mut [u8], pack: &Pack) -> usize
                 kind: b'S',
                 one: 0,
                 a: i as u16,
-                b: pack.arities[i] as u16,
+                b: u16::from(pack.arities[i]),
                 c: 0,
             },
         );
@@ -47,7 +47,7 @@ fn node_record(code: u8) -> Record
         return Record {
             kind: b'F',
             one: 0,
-            a: code as u16,
+            a: u16::from(code),
             b: 0,
             c: 0,
         };
@@ -55,7 +55,7 @@ fn node_record(code: u8) -> Record
     Record {
         kind: b'V',
         one: 0,
-        a: (code - FIRST_VARIABLE) as u16,
+        a: u16::from(code - FIRST_VARIABLE),
         b: 0,
         c: 0,
     }
@@ -113,9 +113,9 @@ pub fn write_pack(out: &mut [u8], pack: &Pack)
             at,
             i,
             pack,
-            pack.starts[2 * i] as usize,
-            pack.starts[2 * i + 1] as usize,
-            pack.starts[2 * i + 2] as usize,
+            usize::from(pack.starts[2 * i]),
+            usize::from(pack.starts[2 * i + 1]),
+            usize::from(pack.starts[2 * i + 2]),
         );
     }
 }

@@ -4,4 +4,4 @@ use Rattle.pack_writer.proofs.FromArrays.{pack_long}
 use Rattle.pack_writer.proofs.pack_length.Goals as goal
 
 pub returns : goal.returns
-returns c = λ q. omega (arith, pack_long q.system _ _ _ c.args.pack.now.starts c.args.pack.now.nodes q.writable)
+returns c = λ q. omega (arith, c.from.ensures, pack_long q.system _ _ _ c.args.pack.now.starts c.args.pack.now.nodes q.writable)

@@ -67,7 +67,8 @@ loop-i-init c = (omega arith, refl, written_none _ _)
 pub write_rule-at-requires : goal.write_rule-at-requires
 write_rule-at-requires c =
     let l = c.loop-i in
-    rule_asked _ _ _ _ _ _ _ c.requires _ c.write_symbols-at.auto.out c.write_symbols-at.ensures l.i l.at l.out c.loop-i-test.true l.invariant.2 l.invariant.1
+    rw (c.from.ensures, c.from-in-loop-i.ensures, c.from-in-loop-i-2.ensures)
+    (rule_asked _ _ _ _ _ _ _ c.requires _ c.write_symbols-at.auto.out c.write_symbols-at.ensures l.i l.at l.out c.loop-i-test.true l.invariant.2 l.invariant.1)
 
 pub loop-i-preserved : goal.loop-i-preserved
 loop-i-preserved c =
@@ -75,7 +76,7 @@ loop-i-preserved c =
       omega arith,
       c.write_rule-at.auto.out ∙ l.invariant.1,
       rule_written _ _ _ _ _ _ _ c.requires _ c.write_symbols-at.auto.out c.write_symbols-at.ensures l.i l.at l.out c.loop-i-test.true l.invariant.2
-          _ _ c.write_rule-at.ensures,
+          _ _ (rw (c.from.ensures, c.from-in-loop-i.ensures, c.from-in-loop-i-2.ensures) at c.write_rule-at.ensures),
     )
 
 pub returns : goal.returns

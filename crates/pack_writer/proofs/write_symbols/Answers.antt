@@ -18,7 +18,7 @@ loop-i-preserved c =
       omega arith,
       c.write_record.auto.list ∙ l.invariant.1,
       rw (e, symbols_more c.args.pack.now.arities l.i (omega arith))
-          (written_more 0 (8 * l.i) _ _ l.out l.invariant.2 (omega arith) _ _ c.write_record.ensures),
+          (written_more 0 (8 * l.i) _ _ l.out l.invariant.2 (omega arith) _ _ (rw c.from.ensures at c.write_record.ensures)),
     )
 
 pub returns : goal.returns
