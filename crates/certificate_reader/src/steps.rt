@@ -94,9 +94,7 @@ fn pair(r: Record, s: State, pack: &PackView) -> Result<State, Refusal>
     if k <= s.pair_key {
         return Err(Refusal::StrayRecord);
     }
-    let Ok(_) = pair_finder::arcs::place_of(pack, usize::from(r.a), usize::from(r.b)) else {
-        return Err(Refusal::NoSuchPair);
-    };
+    pair_finder::arcs::place_of(pack, usize::from(r.a), usize::from(r.b))?;
     Ok(State {
         last: Before::Pair,
         due: s.due - 1,
