@@ -19,7 +19,7 @@ use Rattle.polynomials.specs.Polynomials.{Weight, Weighting}
 use Rattle.polynomials.specs.Judging.{is_none}
 use Rattle.certificate_reader.specs.declared.State.{State}
 use Rattle.records.specs.declared.order.Before.TheVariants.{StartOfComponents, Component as Component', Pair as Pair', Weight as Weight', Marked as Marked', Weighting as Weighting'}
-use Rattle.std.specs.Prelude.{Ok, Err}
+use Rattle.std.specs.Prelude.{None, Some, Ok, Err}
 use Rattle.certificates.specs.Components.{Component, no_weighting, first_weighting, with_pair, with_weighting, last_weighting, on_last, add_weight, add_marked, with_weight, with_marked}
 use Rattle.certificates.specs.CertificateReading.{CertificateReading, going_on, with_begun, components_of, has_weighting}
 use Rattle.certificate_reader.specs.Working.{key, Tells, begun_pairs, begun_weightings, SoundState, Mirrors, StepsAs, GoesOn}
@@ -88,7 +88,7 @@ some_missing s x m e = ne_eqb x.more 0 (λ z. e (m.more_is ∙ z))
 -- AT THE START, AND AFTER C
 
 abbrev pub start_state : State
-start_state = record { last = StartOfComponents; number = 0; due = 0; weighted = false; more = 0; begun = 0; pair_key = 0; weight_key = 0; marked_key = 0 }
+start_state = record { last = StartOfComponents; number = 0; due = 0; weighted = false; more = 0; begun = 0; pair_key = None; weight_key = None; marked_key = None }
 
 pub start_sound : SoundState start_state
 start_sound = pairs_sound start_state (omega arith) (omega arith) (λ h. absurd (omega arith))
@@ -131,7 +131,7 @@ first_few zero = omega arith
 first_few (suc b) = omega arith
 
 pub component_mirrored : (s : State) (x : CertificateReading) (b n k : ℕ) → k ≡ length (first_weighting b) → Mirrors s x →
-    Mirrors (record { last = Component'; number = s.number + 1; due = n; weighted = not (eqb b 0); more = b - k; begun = k; pair_key = 0; weight_key = 0; marked_key = 0 })
+    Mirrors (record { last = Component'; number = s.number + 1; due = n; weighted = not (eqb b 0); more = b - k; begun = k; pair_key = None; weight_key = None; marked_key = None })
     (going_on 6 (components_of x) (begun_with b) n (b - 1))
 unfolding components_of with_begun has_weighting begun_pairs begun_weightings
 component_mirrored s x b n k first m =
@@ -202,7 +202,7 @@ module _ (s : State) (x : CertificateReading) (c : Component) (is : x.begun ≡ 
 
   pub weighting_mirrored : s.weighted ≡ true →
       Mirrors
-      (record { last = Weighting'; number = s.number; due = 0; weighted = s.weighted; more = s.more - 1; begun = s.begun + 1; pair_key = s.pair_key; weight_key = 0; marked_key = 0 })
+      (record { last = Weighting'; number = s.number; due = 0; weighted = s.weighted; more = s.more - 1; begun = s.begun + 1; pair_key = s.pair_key; weight_key = None; marked_key = None })
       (going_on 10 x.done (with_weighting c) 0 (x.more - 1))
   unfolding components_of with_begun has_weighting begun_pairs begun_weightings with_weighting
   weighting_mirrored has =
@@ -223,7 +223,7 @@ module _ (s : State) (x : CertificateReading) (c : Component) (is : x.begun ≡ 
   module _ (k a b : ℕ) (k_is : k ≡ key a b) (small : b < 65536) where
     pub pair_mirrored :
         Mirrors
-        (record { last = Pair'; number = s.number; due = s.due - 1; weighted = s.weighted; more = s.more; begun = s.begun; pair_key = k; weight_key = s.weight_key; marked_key = s.marked_key })
+        (record { last = Pair'; number = s.number; due = s.due - 1; weighted = s.weighted; more = s.more; begun = s.begun; pair_key = Some k; weight_key = s.weight_key; marked_key = s.marked_key })
         (going_on 7 x.done (with_pair c (a_pair a b)) (x.due - 1) x.more)
     unfolding components_of with_begun has_weighting begun_pairs begun_weightings with_pair
     pair_mirrored =
@@ -255,7 +255,7 @@ module _ (s : State) (x : CertificateReading) (c : Component) (is : x.begun ≡ 
 
       pub weight_mirrored :
           Mirrors
-          (record { last = Weight'; number = s.number; due = 0; weighted = s.weighted; more = s.more; begun = s.begun; pair_key = s.pair_key; weight_key = k; marked_key = s.marked_key })
+          (record { last = Weight'; number = s.number; due = 0; weighted = s.weighted; more = s.more; begun = s.begun; pair_key = s.pair_key; weight_key = Some k; marked_key = s.marked_key })
           (going_on 8 x.done (with_weight c this) 0 x.more)
       unfolding components_of with_begun has_weighting begun_pairs begun_weightings with_weight add_weight
       weight_mirrored =
@@ -275,7 +275,7 @@ module _ (s : State) (x : CertificateReading) (c : Component) (is : x.begun ≡ 
 
       pub marked_mirrored :
           Mirrors
-          (record { last = Marked'; number = s.number; due = 0; weighted = s.weighted; more = s.more; begun = s.begun; pair_key = s.pair_key; weight_key = s.weight_key; marked_key = k })
+          (record { last = Marked'; number = s.number; due = 0; weighted = s.weighted; more = s.more; begun = s.begun; pair_key = s.pair_key; weight_key = s.weight_key; marked_key = Some k })
           (going_on 9 x.done (with_marked c this) 0 x.more)
       unfolding components_of with_begun has_weighting begun_pairs begun_weightings with_marked add_marked
       marked_mirrored =

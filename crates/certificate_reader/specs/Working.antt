@@ -1,7 +1,7 @@
 -- How the code reads a certificate: a state of a few numbers. The contracts between our own functions speak of it; no promise
 -- to a user does.
-use Rattle.std.specs.Prelude.{◌≡◌, true, Result, Ok, Err, List, [], ℕ, ◌+◌, ◌*◌, ◌≤◌, ◌<◌, ltb, length}
-use Rattle.std.proofs.Math.Option.{Option, none, some}
+use Rattle.std.specs.Prelude.{◌≡◌, Bool, true, Option, None, Some, Result, Ok, Err, List, [], ℕ, ◌+◌, ◌*◌, ◌≤◌, ◌<◌, ltb, length}
+use Rattle.std.proofs.Math.Option.{Option as Begun, none, some}
 use Rattle.terms.specs.Kept.{symbols_room}
 use Rattle.rewriting.specs.Pairs.{Pair}
 use Rattle.records.specs.declared.Record.{Record}
@@ -19,19 +19,24 @@ use Rattle.certificate_reader.specs.declared.State.{State}
 use Rattle.certificates.specs.Components.{Component, last_weighting}
 use Rattle.certificates.specs.CertificateReading.{CertificateReading, most_certificate_bytes, components_of, has_weighting}
 
--- two numbers as one that rises with them, where the second is below 65536; 0 stands for none, so a key is one more
+-- two numbers as one that rises with them, where the second is below 65536
 unfoldable pub key : (a b : ℕ) → ℕ
-key a b = 65536 * a + b + 1
+key a b = 65536 * a + b
 
--- a number by which to tell whether the last of a list, if there is one, stands below (a, b)
-unfoldable pub Tells : {A : Type 0} (first second : A → ℕ) → List A → ℕ → Type 0
-Tells f g xs k = (a b : ℕ) → b < 65536 → last_below f g xs a b ≡ ltb k (key a b)
+-- whether the last key, if there is one, is less than k
+unfoldable pub is_above : Option ℕ → ℕ → Bool
+is_above None k = true
+is_above (Some last) k = ltb last k
 
-unfoldable pub begun_pairs : Option Component → List Pair
+-- a key, or none, by which to tell whether the last of a list, if there is one, stands below (a, b)
+unfoldable pub Tells : {A : Type 0} (first second : A → ℕ) → List A → Option ℕ → Type 0
+Tells f g xs last = (a b : ℕ) → b < 65536 → last_below f g xs a b ≡ is_above last (key a b)
+
+unfoldable pub begun_pairs : Begun Component → List Pair
 begun_pairs none = []
 begun_pairs (some c) = c.pairs
 
-unfoldable pub begun_weightings : Option Component → List Weighting
+unfoldable pub begun_weightings : Begun Component → List Weighting
 begun_weightings none = []
 begun_weightings (some c) = c.weightings
 
@@ -72,10 +77,10 @@ CertificateRead (passed cs) r = outcome_of r ≡ passed (length cs)
 
 -- THE CONTRACTS: what each function is asked, and what it answers
 
--- what `key` answers: the key, which is no more than 32 bits hold and one
+-- what `key` answers: the key, which is no more than 32 bits hold
 pub record KeyIs (a b r : ℕ) : Type 0 where
   pub is : r ≡ key a b
-  pub small : r ≤ 4294967296
+  pub small : r ≤ 4294967295
 
 -- what one step answers: it goes on soundly, and it means what its record does
 pub record SteppedAs (s : State) (t : Result State Refusal) (Means : Type 0) : Type 0 where

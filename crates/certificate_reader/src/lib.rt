@@ -15,7 +15,7 @@ use records::order::{Before, End};
 
 // What has been read: the last record's row of the table and the components begun. Of the last component: the pairs still
 // due, whether it has a weighting, the weightings still to begin and those begun (the next L's number), the key of its last P
-// record and those of its last weighting's last W and M records (0 for none).
+// record and those of its last weighting's last W and M records.
 #[derive(Clone, Copy)]
 pub struct State {
     pub last: Before,
@@ -24,9 +24,9 @@ pub struct State {
     pub weighted: bool,
     pub more: usize,
     pub begun: usize,
-    pub pair_key: u64,
-    pub weight_key: u64,
-    pub marked_key: u64,
+    pub pair_key: Option<u64>,
+    pub weight_key: Option<u64>,
+    pub marked_key: Option<u64>,
 }
 
 // Reads the components in a certificate of a pack that was read. Answers how many there are.
@@ -42,9 +42,9 @@ pub fn read_components(certificate: &[u8], pack: &PackView) -> Result<usize, Ref
         weighted: false,
         more: 0,
         begun: 0,
-        pair_key: 0,
-        weight_key: 0,
-        marked_key: 0,
+        pair_key: None,
+        weight_key: None,
+        marked_key: None,
     };
     for i in 0..n {
         let Some(r) = records::read_wanted(certificate, 8 * i, s.last, s.due, s.weighted) else {

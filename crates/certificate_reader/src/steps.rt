@@ -24,7 +24,7 @@ const MOST_WEIGHTINGS: u16 = 8;
 fn key(a: u16, b: u16) -> u64
     ensures { KeyIs a b result }
 {
-    65536 * u64::from(a) + u64::from(b) + 1
+    65536 * u64::from(a) + u64::from(b)
 }
 
 // How many of a component's weightings C itself begins: the first, if there is one.
@@ -73,9 +73,9 @@ fn component(r: Record, s: State) -> Result<State, Refusal>
         weighted: r.b != 0,
         more: usize::from(r.b - begun),
         begun: usize::from(begun),
-        pair_key: 0,
-        weight_key: 0,
-        marked_key: 0,
+        pair_key: None,
+        weight_key: None,
+        marked_key: None,
     })
 }
 
@@ -91,14 +91,14 @@ fn pair(r: Record, s: State, pack: &PackView) -> Result<State, Refusal>
         return Err(Refusal::StrayRecord);
     }
     let k = key(r.a, r.b);
-    if k <= s.pair_key {
+    if Some(k) <= s.pair_key {
         return Err(Refusal::StrayRecord);
     }
     pair_finder::arcs::place_of(pack, usize::from(r.a), usize::from(r.b))?;
     Ok(State {
         last: Before::Pair,
         due: s.due - 1,
-        pair_key: k,
+        pair_key: Some(k),
         ..s
     })
 }
@@ -135,7 +135,7 @@ fn weight(r: Record, s: State, pack: &PackView) -> Result<State, Refusal>
         return Err(Refusal::StrayRecord);
     }
     let k = key(r.a, r.b);
-    if k <= s.weight_key {
+    if Some(k) <= s.weight_key {
         return Err(Refusal::StrayRecord);
     }
     if !is_place(pack, Symbol(r.a), r.b) {
@@ -144,7 +144,7 @@ fn weight(r: Record, s: State, pack: &PackView) -> Result<State, Refusal>
     Ok(State {
         last: Before::Weight,
         due: 0,
-        weight_key: k,
+        weight_key: Some(k),
         ..s
     })
 }
@@ -158,7 +158,7 @@ fn marked(r: Record, s: State, pack: &PackView) -> Result<State, Refusal>
         return Err(Refusal::StrayRecord);
     }
     let k = key(r.a, r.b);
-    if k <= s.marked_key {
+    if Some(k) <= s.marked_key {
         return Err(Refusal::StrayRecord);
     }
     if !is_marked_place(pack, Marked(r.a), r.b) {
@@ -167,7 +167,7 @@ fn marked(r: Record, s: State, pack: &PackView) -> Result<State, Refusal>
     Ok(State {
         last: Before::Marked,
         due: 0,
-        marked_key: k,
+        marked_key: Some(k),
         ..s
     })
 }
@@ -197,8 +197,8 @@ fn weighting(r: Record, s: State) -> Result<State, Refusal>
         due: 0,
         more: s.more - 1,
         begun: s.begun + 1,
-        weight_key: 0, // a weighting's W and M records rise anew
-        marked_key: 0,
+        weight_key: None, // a weighting's W and M records rise anew
+        marked_key: None,
         ..s
     })
 }

@@ -3,7 +3,7 @@ use mathlib.Core.Path.{◌≡◌, refl, sym}
 use mathlib.Core.Bool.{Bool, true, false, ◌&&◌, cond}
 use Prim.Native.Nat.{ℕ, ◌<◌}
 use native.Mathlib.Omega.{arith}
-use borrow.Author.Tests.{eq-eqb, ne_eqb, lt-ltb, le-ltb}
+use borrow.Author.Tests.{eq-eqb, ne_eqb}
 use lib.Dec.{eqb}
 use Rattle.rewriting.specs.Pairs.{is_pair}
 use Rattle.records.specs.declared.Refusal.{Refusal}
@@ -16,7 +16,7 @@ use Rattle.pairs.specs.Listing.{a_pair}
 use Rattle.pair_finder.specs.Walking.{PlaceAnswer}
 use Rattle.certificates.specs.CertificateReading.{pair_read}
 use Rattle.certificate_reader.specs.Working.{Tells}
-use Rattle.certificate_reader.proofs.Keys.{by_key}
+use Rattle.certificate_reader.proofs.Keys.{by_key, at_most}
 use Rattle.certificate_reader.proofs.Mirrored.{no_state, after_pair, stops, stops_with, answers, pairs_told, pair_mirrored}
 use Rattle.certificate_reader.proofs.steps.pair.Goals as goal
 
@@ -42,14 +42,14 @@ returns-then-r-ne0-2 c =
       means = λ p x d stored m is kind. rw (eq-eqb _ _ c.if-r-ne0.false, ne_eqb _ _ c.if-r-ne0-2.true) (stops StrayRecord);
     }
 
-pub returns-then-k-s : goal.returns-then-k-s
+pub returns-then-le : goal.returns-then-le
 unfolding pair_read Tells
-returns-then-k-s c =
+returns-then-le c =
     let zeros : eqb c.args.r.one 0 && eqb c.args.r.c 0 ≡ true = rw (eq-eqb _ _ c.if-r-ne0.false, eq-eqb _ _ c.if-r-ne0-2.false) in
     let small : c.args.r.b < 65536 = omega arith in
     record {
       on = no_state _ StrayRecord;
-      means = λ p x d stored m is kind. rw (zeros, by_key _ _ _ _ _ _ _ (pairs_told _ x d is m) small c.key-k.ensures.is, le-ltb _ _ c.if-k-s.true) (stops StrayRecord);
+      means = λ p x d stored m is kind. rw (zeros, by_key _ _ _ _ _ _ _ (pairs_told _ x d is m) small c.key-k.ensures.is, at_most _ _ c.le.ensures c.if-le.true) (stops StrayRecord);
     }
 
 pub returns-in_err-place_of : goal.returns-in_err-place_of
@@ -61,7 +61,7 @@ returns-in_err-place_of c =
       on = no_state _ _;
       means = λ p x d stored m is kind.
           let none : (is_pair p (a_pair c.args.r.a c.args.r.b) ≡ false) × (number_of _ ≡ 7) = not_named _ _ _ ((rw (c.from.ensures, c.from-2.ensures) at c.in_err-place_of.ensures) p _ _ stored) in
-          rw (zeros, by_key _ _ _ _ _ _ _ (pairs_told _ x d is m) small c.key-k.ensures.is, lt-ltb _ _ c.if-k-s.false, none.0) (stops_with 7 _ none.1);
+          rw (zeros, by_key _ _ _ _ _ _ _ (pairs_told _ x d is m) small c.key-k.ensures.is, at_most _ _ c.le.ensures c.if-le.false, none.0) (stops_with 7 _ none.1);
     }
 
 pub returns : goal.returns
@@ -73,6 +73,6 @@ returns c =
       on = after_pair _ _ refl refl refl;
       means = λ p x d stored m is kind.
           let one : is_pair p (a_pair c.args.r.a c.args.r.b) ≡ true = named _ _ _ ((rw (c.from.ensures, c.from-2.ensures) at c.in_ok-place_of.ensures) p _ _ stored) in
-          rw (zeros, by_key _ _ _ _ _ _ _ (pairs_told _ x d is m) small c.key-k.ensures.is, lt-ltb _ _ c.if-k-s.false, one, kind)
+          rw (zeros, by_key _ _ _ _ _ _ _ (pairs_told _ x d is m) small c.key-k.ensures.is, at_most _ _ c.le.ensures c.if-le.false, one, kind)
           (answers _ _ (pair_mirrored _ x d is m _ _ _ c.key-k.ensures.is small));
     }

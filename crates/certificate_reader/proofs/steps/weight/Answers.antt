@@ -3,14 +3,14 @@ use mathlib.Core.Path.{◌≡◌, refl, sym, ◌∙◌}
 use mathlib.Core.Bool.{true}
 use Prim.Native.Nat.{◌<◌}
 use native.Mathlib.Omega.{arith}
-use borrow.Author.Tests.{eq-eqb, ne_eqb, lt-ltb, le-ltb}
+use borrow.Author.Tests.{eq-eqb, ne_eqb}
 use lib.Dec.{eqb}
 use Rattle.records.specs.declared.Refusal.TheVariants.{StrayRecord, OutOfRange}
 use Rattle.records.specs.Order.{index}
 use Rattle.certificates.specs.CertificateReading.{weights_below, weight_read}
 use Rattle.certificate_reader.specs.Working.{Tells}
 use Rattle.certificate_reader.proofs.FromStore.{place_stored}
-use Rattle.certificate_reader.proofs.Keys.{by_key}
+use Rattle.certificate_reader.proofs.Keys.{by_key, at_most}
 use Rattle.certificate_reader.proofs.Mirrored.{no_state, after_weight, stops, answers, weights_told, weight_mirrored}
 use Rattle.certificate_reader.proofs.steps.weight.Goals as goal
 
@@ -19,14 +19,14 @@ unfolding weight_read
 returns-then-r-ne0 c =
     record { on = no_state _ StrayRecord; means = λ p x d stored m is due kind. rw (ne_eqb _ _ c.if-r-ne0.true) (stops StrayRecord) }
 
-pub returns-then-k-s : goal.returns-then-k-s
+pub returns-then-le : goal.returns-then-le
 unfolding weight_read weights_below Tells
-returns-then-k-s c =
+returns-then-le c =
     let zero_one : eqb c.args.r.one 0 ≡ true = eq-eqb _ _ c.if-r-ne0.false in
     let small : c.args.r.b < 65536 = omega arith in
     record {
       on = no_state _ StrayRecord;
-      means = λ p x d stored m is due kind. rw (zero_one, by_key _ _ _ _ _ _ _ (weights_told _ x d is m) small c.key-k.ensures.is, le-ltb _ _ c.if-k-s.true) (stops StrayRecord);
+      means = λ p x d stored m is due kind. rw (zero_one, by_key _ _ _ _ _ _ _ (weights_told _ x d is m) small c.key-k.ensures.is, at_most _ _ c.le.ensures c.if-le.true) (stops StrayRecord);
     }
 
 pub returns-then-not-is_place : goal.returns-then-not-is_place
@@ -38,7 +38,7 @@ returns-then-not-is_place c =
       on = no_state _ OutOfRange;
       means = λ p x d stored m is due kind.
           let none = place_stored p _ _ _ _ _ _ stored c.args.r.a c.args.r.b ∙ sym c.is_place.ensures ∙ c.if-not-is_place.true in
-          rw (zero_one, by_key _ _ _ _ _ _ _ (weights_told _ x d is m) small c.key-k.ensures.is, lt-ltb _ _ c.if-k-s.false, none) (stops OutOfRange);
+          rw (zero_one, by_key _ _ _ _ _ _ _ (weights_told _ x d is m) small c.key-k.ensures.is, at_most _ _ c.le.ensures c.if-le.false, none) (stops OutOfRange);
     }
 
 pub returns : goal.returns
@@ -51,6 +51,6 @@ returns c =
       on = after_weight _ _ (omega arith) (omega arith) refl has refl (omega arith);
       means = λ p x d stored m is due kind.
           let one = place_stored p _ _ _ _ _ _ stored c.args.r.a c.args.r.b ∙ sym c.is_place.ensures ∙ c.if-not-is_place.false in
-          rw (zero_one, by_key _ _ _ _ _ _ _ (weights_told _ x d is m) small c.key-k.ensures.is, lt-ltb _ _ c.if-k-s.false, one, kind)
+          rw (zero_one, by_key _ _ _ _ _ _ _ (weights_told _ x d is m) small c.key-k.ensures.is, at_most _ _ c.le.ensures c.if-le.false, one, kind)
           (answers _ _ (weight_mirrored _ x d is m _ _ _ c.key-k.ensures.is small _ has));
     }
