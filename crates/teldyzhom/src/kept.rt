@@ -22,10 +22,8 @@ pub fn check_kept(certificate: &[u8], pack: &Pack) -> Result<(), Refusal>
     let view = pack.view();
     let components = certificate_reader::read_components(certificate, &view)?;
     // The entries of an accepted certificate nobody asks for yet.
-    match checker::judge(certificate, components, pack) {
-        Ok(_) => Ok(()),
-        Err(x) => Err(x),
-    }
+    checker::judge(certificate, components, pack)?;
+    Ok(())
 }
 
 // Says whether an arc runs between two pairs: yes, no, or 7.

@@ -16,12 +16,13 @@ judge-requires c =
     let a = c.requires in
     judgeable a _ (certificate_found _ _ ((rw (c.view-view.ensures.0, c.view-view.ensures.1, c.view-view.ensures.2, c.view-view.ensures.3, c.view-view.ensures.4, c.view-view.ensures.5) at c.in_ok-components.ensures) a.system a.stored))
 
-pub returns-in-Err : goal.returns-in-Err
-returns-in-Err c = λ a.
+pub returns-in_err-judge : goal.returns-in_err-judge
+returns-in_err-judge c = λ a.
     let found = certificate_found _ _ ((rw (c.view-view.ensures.0, c.view-view.ensures.1, c.view-view.ensures.2, c.view-view.ensures.3, c.view-view.ensures.4, c.view-view.ensures.5) at c.in_ok-components.ensures) a.system a.stored) in
-    judge_stops a _ found _ _ (c.in-Err.ensures (judgeable a _ found)).numbered
+    rw (handed_on c.from_residual-in_err-judge.result c.from_residual-in_err-judge.ensures.1)
+    (judge_stops a _ found _ _ (c.in_err-judge.ensures (judgeable a _ found)).numbered)
 
-pub returns-in-Ok : goal.returns-in-Ok
-returns-in-Ok c = λ a.
+pub returns : goal.returns
+returns c = λ a.
     let found = certificate_found _ _ ((rw (c.view-view.ensures.0, c.view-view.ensures.1, c.view-view.ensures.2, c.view-view.ensures.3, c.view-view.ensures.4, c.view-view.ensures.5) at c.in_ok-components.ensures) a.system a.stored) in
-    judge_passes a _ found _ (c.in-Ok.ensures (judgeable a _ found)).numbered
+    judge_passes a _ found _ (c.in_ok-judge.ensures (judgeable a _ found)).numbered
