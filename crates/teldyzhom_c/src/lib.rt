@@ -21,12 +21,14 @@ pub struct Reply {
 }
 
 // What is told of a refusal.
-fn refused(x: Refusal) -> Reply
-    ensures { (result.number ≡ number_of x) × (result.value ≡ 0) }
-{
-    Reply {
-        number: u32::from(x),
-        value: 0,
+impl From<Refusal> for Reply {
+    ghost from_gives = { λ x r. (r.number ≡ number_of x) × (r.value ≡ 0) };
+
+    fn from(x: Refusal) -> Reply {
+        Reply {
+            number: u32::from(x),
+            value: 0,
+        }
     }
 }
 
@@ -50,7 +52,7 @@ pub extern "C" fn teldyzhom_list(pack: &[u8], list: &mut [u8]) -> Reply
     ensures leaves { list.new ≡ buffer_after (listing pack.now (length list.old)) list.old }
 {
     match teldyzhom::list_pairs(pack, list) {
-        Err(x) => refused(x),
+        Err(x) => Reply::from(x),
         Ok(n) => Reply {
             number: 0,
             value: n as u32,
@@ -71,7 +73,7 @@ pub extern "C" fn teldyzhom_arc(
     ensures value { result.value ≡ arc_value (arc_question pack.now (a_pair rule place) (a_pair other_rule other_place)) }
 {
     match teldyzhom::arc_runs(pack, rule, place, other_rule, other_place) {
-        Err(x) => refused(x),
+        Err(x) => Reply::from(x),
         Ok(runs) => Reply {
             number: 0,
             value: u32::from(runs),
@@ -87,7 +89,7 @@ pub extern "C" fn teldyzhom_read_text(text: &[u8], pack: &mut [u8]) -> Reply
     ensures leaves { pack.new ≡ pack_after (text_pack text.now (length pack.old)) pack.old }
 {
     match teldyzhom::read_text(text, pack) {
-        Err(x) => refused(x),
+        Err(x) => Reply::from(x),
         Ok(n) => Reply {
             number: 0,
             value: n as u32,

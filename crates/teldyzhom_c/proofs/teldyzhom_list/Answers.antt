@@ -9,10 +9,10 @@ pub overflow_cast-result : goal.overflow_cast-result
 overflow_cast-result c = record { fits = omega (arith, listed_few _ _ _ _ c.list_pairs.ensures.says c.in-Ok.is) }
 
 pub returns-in-Err-clause-number : goal.returns-in-Err-clause-number
-returns-in-Err-clause-number c = c.refused.ensures.0 ∙ (list_number _ _ _ c.list_pairs.ensures.says c.in-Err.is).0
+returns-in-Err-clause-number c = c.from.ensures.0 ∙ (list_number _ _ _ c.list_pairs.ensures.says c.in-Err.is).0
 
 pub returns-in-Err-clause-value : goal.returns-in-Err-clause-value
-returns-in-Err-clause-value c = c.refused.ensures.1 ∙ (list_number _ _ _ c.list_pairs.ensures.says c.in-Err.is).1
+returns-in-Err-clause-value c = c.from.ensures.1 ∙ (list_number _ _ _ c.list_pairs.ensures.says c.in-Err.is).1
 
 pub returns-in-Ok-clause-number : goal.returns-in-Ok-clause-number
 returns-in-Ok-clause-number c = (list_count _ _ _ c.list_pairs.ensures.says c.in-Ok.is).0
