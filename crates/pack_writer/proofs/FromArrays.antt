@@ -44,7 +44,7 @@ part_last ns a i h k =
     let d : a + (i - a) ≡ i = omega arith in
     rw (e, take-suc (drop a ns) (i - a) 0 (simp length-drop (omega arith)), get_or-drop a ns (i - a) 0, d)
 
-part_long : (ns : List ℕ) (a e : ℕ) → e ≤ length ns → length (part ns a e) ≡ e - a
+pub part_long : (ns : List ℕ) (a e : ℕ) → e ≤ length ns → length (part ns a e) ≡ e - a
 unfolding part
 part_long ns a e h = length-take-le (e - a) (drop a ns) (simp length-drop (omega arith))
 

@@ -66,12 +66,10 @@ fn write_nodes(out: &mut [u8], at: usize, pack: &Pack, from: usize, to: usize) -
     requires { NodesAsked out.old at pack.now.nodes from to }
     ensures { RecordsWritten at (map byte_record (part pack.now.nodes from to)) result out.old out.new }
 {
-    let mut next = at;
-    for i in from..to {
-        records::write_record(out, next, node_record(pack.nodes[i]));
-        next = next + 8;
+    for (i, code) in pack.nodes[from..to].iter().enumerate() {
+        records::write_record(out, at + 8 * i, node_record(*code));
     }
-    next
+    at + 8 * (to - from)
 }
 
 // Writes rule i's records from byte `at` on: how many nodes each side has, then the nodes. Answers the byte after them.
