@@ -15,7 +15,10 @@ use Rattle.pack_writer.proofs.FromArrays.{part_last, part_long}
 use Rattle.pack_writer.proofs.write_nodes.Goals as goal
 
 at_first : (at from : ℕ) (nodes o : List ℕ) → RecordsWritten at (map byte_record (part nodes from (from + 0))) (at + 0) o o
-at_first at from nodes o = let e : from + 0 ≡ from = omega arith in let f : at + 0 ≡ at = omega arith in rw (e, f, part_none nodes from from (omega arith)) (written_none at o)
+at_first at from nodes o =
+    let e : from + 0 ≡ from = omega arith in
+    let f : at + 0 ≡ at = omega arith in
+    rw (e, f, part_none nodes from from (omega arith)) (written_none at o)
 
 part_node : (nodes : List ℕ) (from to i : ℕ) → from + i < to → get_or (part nodes from to) i 0 ≡ get_or nodes (from + i) 0
 unfolding part
