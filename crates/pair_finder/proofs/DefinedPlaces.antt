@@ -1,12 +1,14 @@
 -- The places of a side that apply a defined symbol, one node at a time, and the pairs of the first rules, one rule at a time.
-use mathlib.Core.Path.{◌≡◌, ap, ◌∙◌}
+use mathlib.Core.Path.{◌≡◌, refl, ap, ◌∙◌}
 use mathlib.Core.Bool.{true, false}
-use mathlib.Core.List.{List, [], ◌∷◌, ◌++◌}
+use mathlib.Core.List.{List, [], ◌∷◌, ◌++◌, map}
 use Prim.Native.Nat.{ℕ, zero, suc, ◌+◌, ◌*◌, ◌-◌, ◌≤◌, ◌<◌}
 use native.Mathlib.Nat.{add-zero}
 use native.Mathlib.Numerals.{add-one}
 use native.Mathlib.Omega.{arith}
 use lib.ListN.{length, get_or, take, drop, length-append, length-take, length-map}
+use Rattle.std.specs.List.{range_with_len, sum}
+use Rattle.std.proofs.lemmas.List.FromFn.{sum_by-map-range_with_len_more}
 use Rattle.terms.specs.Kept.{part}
 use Rattle.terms.proofs.Parts.{part_none, part_more}
 use Rattle.pairs.specs.Listing.{a_pair}
@@ -64,6 +66,32 @@ module _ (ss ns ms : List ℕ) where
 
   pub first_more_long : (i : ℕ) → length (first_pairs ss ns ms (i + 1)) ≡ length (first_pairs ss ns ms i) + length (rule_pairs ss ns ms i)
   first_more_long i = ap length (first_more i) ∙ length-append (first_pairs ss ns ms i) (rule_pairs ss ns ms i)
+
+  -- the pairs of a rule, counted
+  abbrev pub pairs_in : (i : ℕ) → ℕ
+  pairs_in i = length (places ms 0 (part ns (get_or ss (2 * i + 1) 0) (get_or ss (2 * i + 2) 0)))
+
+  summed_more : (n : ℕ) → sum (map pairs_in (range_with_len 0 n)) ≡ length (first_pairs ss ns ms n)
+      → sum (map pairs_in (range_with_len 0 (n + 1))) ≡ length (first_pairs ss ns ms (n + 1))
+  summed_more n e =
+      omega (arith, e, sum_by-map-range_with_len_more (λ (k : ℕ). k) pairs_in 0 n n (omega arith), first_more_long n, rule_pairs_long n)
+
+  -- those of the first n, rule by rule
+  pub pairs_summed : (n : ℕ) → sum (map pairs_in (range_with_len 0 n)) ≡ length (first_pairs ss ns ms n)
+  unfolding first_pairs
+  pairs_summed zero = refl
+  pairs_summed (suc n) = rw (add-one n) at (summed_more n (pairs_summed n))
+
+  few_more : (n : ℕ) → get_or ss (2 * n + 2) 0 ≤ get_or ss (2 * n + 1) 0 + 32 → length (first_pairs ss ns ms n) ≤ 32 * n
+      → length (first_pairs ss ns ms (n + 1)) ≤ 32 * (n + 1)
+  few_more n short few =
+      omega (arith, part_places_few ms ns (get_or ss (2 * n + 1) 0) (get_or ss (2 * n + 2) 0), first_more_long n, rule_pairs_long n)
+
+  -- at most 32 a rule
+  pub first_few : (n : ℕ) → ((i : ℕ) → i < n → get_or ss (2 * i + 2) 0 ≤ get_or ss (2 * i + 1) 0 + 32) → length (first_pairs ss ns ms n) ≤ 32 * n
+  unfolding first_pairs
+  first_few zero short = omega arith
+  first_few (suc n) short = rw (add-one n) at (few_more n (short n (omega arith)) (first_few n (λ i h. short i (omega arith))))
 
   -- more rules have no fewer pairs
   first_grow : (i k : ℕ) → length (first_pairs ss ns ms i) ≤ length (first_pairs ss ns ms (i + k))

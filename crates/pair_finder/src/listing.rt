@@ -34,13 +34,13 @@ pub fn count_pairs(pack: &PackView) -> usize
     requires { Laid pack.now.starts.now pack.now.nodes.now pack.now.rules × (length pack.now.defined.now ≡ symbols_room) }
     ensures { result ≡ length (first_pairs pack.now.starts.now pack.now.nodes.now pack.now.defined.now pack.now.rules) }
 {
-    let mut n = 0;
-    for i in 0..pack.rules {
-        let from = usize::from(pack.starts[2 * i + 1]);
-        let to = usize::from(pack.starts[2 * i + 2]);
-        n += count_in(pack, from, to);
-    }
-    n
+    (0..pack.rules)
+        .map(|i| {
+            let from = usize::from(pack.starts[2 * i + 1]);
+            let to = usize::from(pack.starts[2 * i + 2]);
+            count_in(pack, from, to)
+        })
+        .sum()
 }
 
 // Writes the records of rule `rule`'s pairs from byte `at` on. Answers the byte after them.
