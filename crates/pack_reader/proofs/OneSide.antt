@@ -4,7 +4,7 @@ use mathlib.Core.Bool.{false}
 use mathlib.Core.List.{List, [], ◌∷◌, ◌++◌}
 use Prim.Native.Nat.{ℕ, zero, suc, ◌+◌, ◌*◌, ◌-◌, ◌≤◌, ◌<◌}
 use native.Mathlib.Omega.{arith}
-use borrow.Author.Tests.{ne_eqb, lt-ltb, le-ltb}
+use borrow.Author.Tests.{ne_eqb}
 use lib.Dec.{eqb}
 use lib.ListN.{length, get_or, drop, length-drop}
 use lib.Seq.{take-suc, get_or-drop}
@@ -39,20 +39,8 @@ module _ (ar ns : List ℕ) (from to w i : ℕ) (wanting : Wanting ar ns from to
     too_many z = rw (z, part_more ns i to h k) at wanting.3
 
     -- one node more is read
-    module _ (some : w ≡ 0 → ⊥) where
-      pub symbol_read : get_or ns i 0 < 64 → get_or ar (get_or ns i 0) 0 < 256 → Wanting ar ns from to (w + get_or ar (get_or ns i 0) 0 - 1) (i + 1)
-      unfolding code_arity
-      symbol_read low few =
-          let e : w + get_or ar (get_or ns i 0) 0 - 1 ≡ w - 1 + get_or ar (get_or ns i 0) 0 = omega arith in
-          let r = rw (lt-ltb _ _ low) at (one_read ar ns w i to some h k) in
-          (omega arith, omega arith, omega arith, rw e (r ∙ wanting.3))
-
-      pub variable_read : 64 ≤ get_or ns i 0 → Wanting ar ns from to (w - 1) (i + 1)
-      unfolding code_arity
-      variable_read high =
-          let e : w - 1 ≡ w - 1 + 0 = omega arith in
-          let r = rw (le-ltb _ _ high) at (one_read ar ns w i to some h k) in
-          (omega arith, omega arith, omega arith, rw e (r ∙ wanting.3))
+    pub node_read : (w ≡ 0 → ⊥) → code_arity ar (get_or ns i 0) < 256 → Wanting ar ns from to (w - 1 + code_arity ar (get_or ns i 0)) (i + 1)
+    node_read some few = (omega arith, omega arith, omega arith, one_read ar ns w i to some h k ∙ wanting.3)
 
 -- the part passed has one node more
 pub part_last : (ns : List ℕ) (a b : ℕ) → a ≤ b → b < length ns → part ns a (b + 1) ≡ part ns a b ++ (get_or ns b 0 ∷ [])

@@ -1,14 +1,35 @@
 // The sides of a rule in bytes: 4, 5, 6.
-ghost use Rattle.std.specs.Prelude.{◌≡◌};
+ghost use Rattle.std.specs.Prelude.{◌≡◌, ◌&&◌, List, [], ◌∷◌, ◌++◌, ℕ, length};
 ghost use Rattle.records.specs.Answers.{outcome_of};
 ghost use Rattle.terms.specs.Kept.{part};
-ghost use Rattle.pack_reader.specs.Stored.{rule_judged, LeftAsked, LeftJudged, RightAsked, RightJudged, SidesAsked};
+ghost use Rattle.packs.specs.PackReading.{variable_count};
+ghost use Rattle.pack_reader.specs.Stored.{all_seen, SeenIn, rule_judged, LeftAsked, LeftJudged, RightAsked, RightJudged, SidesAsked};
 
 use records::Refusal;
 use terms::{FIRST_VARIABLE, MOST_SYMBOLS, MOST_VARIABLES};
 
 // The byte after those of the variables.
 const PAST_VARIABLES: usize = MOST_SYMBOLS + MOST_VARIABLES;
+
+// Notes the node's variable, if it has one.
+fn note(code: u8, seen: &mut [bool])
+    requires { length seen.old ≡ variable_count }
+    ensures { (length seen.new ≡ variable_count) × ((cs : List ℕ) → SeenIn cs seen.old → SeenIn (cs ++ (code ∷ [])) seen.new) }
+{
+    let c = usize::from(code);
+    if MOST_SYMBOLS <= c && c < PAST_VARIABLES {
+        seen[c - MOST_SYMBOLS] = true;
+    }
+}
+
+// Whether the node is a symbol's, or its variable was noted.
+fn is_noted(code: u8, seen: &[bool]) -> bool
+    requires { length seen.now ≡ variable_count }
+    ensures { (cs : List ℕ) → all_seen seen.now (code ∷ cs) ≡ (result && all_seen seen.now cs) }
+{
+    let c = usize::from(code);
+    c < MOST_SYMBOLS || c < PAST_VARIABLES && seen[c - MOST_SYMBOLS]
+}
 
 // Notes the variables of a left side, and says whether its nodes are exactly one term: one pass for both.
 fn left_side(arities: &[u8], nodes: &[u8], from: usize, to: usize, seen: &mut [bool]) -> bool
@@ -20,13 +41,8 @@ fn left_side(arities: &[u8], nodes: &[u8], from: usize, to: usize, seen: &mut [b
         if wanted == 0 {
             return false;
         }
-        let c = usize::from(nodes[i]);
-        if c < MOST_SYMBOLS {
-            wanted = wanted + usize::from(arities[c]);
-        } else if c < PAST_VARIABLES {
-            seen[c - MOST_SYMBOLS] = true;
-        }
-        wanted = wanted - 1;
+        wanted = wanted - 1 + terms::code_arity(arities, nodes[i]);
+        note(nodes[i], seen);
     }
     wanted == 0
 }
@@ -42,15 +58,8 @@ fn right_side(arities: &[u8], nodes: &[u8], from: usize, to: usize, seen: &[bool
         if wanted == 0 {
             return None;
         }
-        let c = usize::from(nodes[i]);
-        if c < MOST_SYMBOLS {
-            wanted = wanted + usize::from(arities[c]);
-        } else if PAST_VARIABLES <= c {
-            closed = false;
-        } else if !seen[c - MOST_SYMBOLS] {
-            closed = false;
-        }
-        wanted = wanted - 1;
+        wanted = wanted - 1 + terms::code_arity(arities, nodes[i]);
+        closed = closed && is_noted(nodes[i], seen);
     }
     if wanted == 0 {
         return Some(closed);
