@@ -1,11 +1,17 @@
 -- What is taken from a list of pairs of files, and how a line is split.
-use Rattle.std.specs.Prelude.{◌≡◌, Option, Some, None, List, ℕ, zero, suc, ◌+◌, ◌-◌, ◌≤◌, ◌<◌, length, get_or, take, drop, ⊤}
+use Rattle.std.specs.Prelude.{◌≡◌, Result, Ok, Err, Option, Some, None, List, ℕ, zero, suc, ◌+◌, ◌-◌, ◌≤◌, ◌<◌, length, get_or, take, drop, ⊤}
 use Rattle.std.specs.Io.KnownBytes.{Consumes, IsAtEnd}
+use Rattle.std.specs.declared.io.Error.{Error}
 use Rattle.names.specs.Counts.{IsPrefixLen}
 use Rattle.lists.specs.declared.Next.{Next}
 use Rattle.lists.specs.declared.Taken.{Taken}
 use Rattle.lists.specs.declared.Taken.TheVariants.{Line, Unended, Part, End}
 use Rattle.lists.specs.declared.Window.{Window}
+
+-- where the bytes stand that a read gave: all from the window's start on, however few; a read that failed is told with its error
+abbrev pub FilledBy : Result ℕ Error → Result Window Error → Type 0
+FilledBy (Ok n) r = r ≡ Ok (record { from = 0; to = n })
+FilledBy (Err error) r = r ≡ Err error
 
 -- what was read of a list stands at the window's start, all of it, and it is nothing only where the list has ended
 pub record Filled (before after : Option (List ℕ)) (w : Window) (window : List ℕ) : Type 0 where

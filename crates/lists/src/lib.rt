@@ -2,7 +2,7 @@
 // A list of pairs of files, line by line: a pack's name, a tab, a certificate's name. A line ends in a line end or, so that names may
 // hold one, in a byte 0. A list may be longer than any buffer, so what was read of it and not yet taken stands in a window.
 ghost use Rattle.std.specs.Prelude.{ℕ, ◌-◌, ◌≤◌, ◌<◌, length, IfOk, IsOkAnd, OnErr, MatchOption};
-ghost use Rattle.lists.specs.Lists.{Emptied, EndsAt, Filled, First, HasEnded, NoneBetween, tab, Refilled, Splits, Stands, Whole};
+ghost use Rattle.lists.specs.Lists.{Emptied, EndsAt, Filled, FilledBy, First, HasEnded, NoneBetween, tab, Refilled, Splits, Stands, Whole};
 
 use std::io;
 use std::io::Read;
@@ -39,6 +39,14 @@ struct Window {
     to: usize,
 }
 
+// Where the bytes stand that a read gave: from the window's start on, however few. A read that failed keeps its error.
+fn filled(read: io::Result<usize>) -> io::Result<Window>
+    ensures { FilledBy read result }
+{
+    let to = read?;
+    Ok(Window { from: 0, to })
+}
+
 // Reads on where all of the window has been taken. A read that fails is no end of the list.
 fn refilled<R: Read>(list: &mut R, window: &mut [u8], from: usize, to: usize) -> io::Result<Window>
     requires { to ≤ length window.old }
@@ -49,8 +57,7 @@ fn refilled<R: Read>(list: &mut R, window: &mut [u8], from: usize, to: usize) ->
     if from < to {
         return Ok(Window { from, to });
     }
-    let to = list.read(window)?;
-    Ok(Window { from: 0, to })
+    filled(list.read(window))
 }
 
 // The list has ended after so many bytes of a line.
