@@ -10,11 +10,11 @@ use borrow.Author.Tests.{lt-ltb, le-ltb, eq-eqb, ne_eqb}
 use Rattle.rewriting.proofs.Basics.{or_right}
 use Rattle.records.specs.declared.Refusal.{Refusal}
 use Rattle.std.specs.Prelude.{Result, Ok, Err}
-use Rattle.records.specs.Outcomes.{Outcome, refused, passed}
+use Rattle.records.specs.Outcomes.{Outcome, refused, passed, refusal}
 use Rattle.records.specs.Records.{all_records, length_bad, all_bytes}
 use Rattle.records.specs.Order.{components_start}
 use Rattle.records.specs.Files.{Whole}
-use Rattle.records.specs.Answers.{number_of}
+use Rattle.records.specs.Answers.{number_of, outcome_of}
 use Rattle.records.proofs.Outcomes.{number_some}
 use Rattle.pack_reader.specs.declared.Pack.{Pack}
 use Rattle.packs.specs.PackReading as packs
@@ -118,13 +118,9 @@ module _ {ds : List ℕ} {k : Pack} (a : CheckAsked ds k) where
     unfolding check_read
     is_judged = rw (read_is ∙ w.is)
 
-    pub judge_stops : (A : Type 0) (x : Refusal) → JudgedAs {A = A} (judged a.system (plain a.system) w.all) (Err x) → number_of x ≡ checks
+    pub judge_is : (A : Type 0) (r : Result A Refusal) → JudgedAs (judged a.system (plain a.system) w.all) r → refusal (outcome_of r) ≡ checks
     unfolding JudgedAs
-    judge_stops A x h = sym (is_judged ∙ sym h)
-
-    pub judge_passes : {A : Type 0} (y : A) → JudgedAs (judged a.system (plain a.system) w.all) (Ok y) → 0 ≡ checks
-    unfolding JudgedAs
-    judge_passes y h = sym (is_judged ∙ sym h)
+    judge_is A r h = h ∙ sym is_judged
 
 -- THE CHECK, of a pack that was read
 pub check_is : (bs ds : List ℕ) (r : Pack) (k : KeptAs (read_pack bs) r) → Whole most_certificate_bytes ds →

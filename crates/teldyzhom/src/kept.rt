@@ -1,6 +1,7 @@
 // The check and the arc question over a pack that was read.
 ghost use Rattle.std.specs.Prelude.{◌≡◌, List, ℕ};
-ghost use Rattle.records.specs.Outcomes.{passed};
+ghost use Rattle.records.specs.Answers.{outcome_of};
+ghost use Rattle.records.specs.Outcomes.{passed, refusal};
 ghost use Rattle.packs.specs.PackReading.{read_pack};
 ghost use Rattle.pairs.specs.Listing.{a_pair};
 ghost use Rattle.pairs.specs.Answers.{arc_question};
@@ -11,8 +12,17 @@ ghost use Rattle.judging.specs.Check.{check_read};
 ghost use Rattle.teldyzhom.specs.Entries.{checked_number};
 ghost use Rattle.teldyzhom.specs.Kept.{CheckAsked};
 
+use entries::Store;
 use pack_reader::{Pack, PackView};
 use records::Refusal;
+
+// What a certificate comes to by its judgement. The entries of an accepted one nobody asks for yet.
+fn accepted(judged: Result<Store, Refusal>) -> Result<(), Refusal>
+    ensures { checked_number result ≡ refusal (outcome_of judged) }
+{
+    judged?;
+    Ok(())
+}
 
 // Checks a certificate that has passed 1: accepted, or the first refusal, 2 to 13 or 17.
 pub fn check_kept(certificate: &[u8], pack: &Pack) -> Result<(), Refusal>
@@ -21,9 +31,7 @@ pub fn check_kept(certificate: &[u8], pack: &Pack) -> Result<(), Refusal>
 {
     let view = pack.view();
     let components = certificate_reader::read_components(certificate, &view)?;
-    // The entries of an accepted certificate nobody asks for yet.
-    checker::judge(certificate, components, pack)?;
-    Ok(())
+    accepted(checker::judge(certificate, components, pack))
 }
 
 // Says whether an arc runs between two pairs: yes, no, or 7.

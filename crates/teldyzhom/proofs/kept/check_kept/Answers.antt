@@ -1,6 +1,7 @@
 -- `teldyzhom::kept::check_kept` meets its contract: the certificate's refusal, then the judgement.
+use mathlib.Core.Path.{◌∙◌}
 use Rattle.records.proofs.Outcomes.{handed_on}
-use Rattle.teldyzhom.proofs.Checks.{reading_asked, certificate_refused, certificate_found, certificate_stops, judgeable, judge_stops, judge_passes}
+use Rattle.teldyzhom.proofs.Checks.{reading_asked, certificate_refused, certificate_found, certificate_stops, judgeable, judge_is}
 use Rattle.teldyzhom.proofs.kept.check_kept.Goals as goal
 
 pub read_components-requires : goal.read_components-requires
@@ -16,13 +17,7 @@ judge-requires c =
     let a = c.requires in
     judgeable a _ (certificate_found _ _ ((rw (c.view-view.ensures.0, c.view-view.ensures.1, c.view-view.ensures.2, c.view-view.ensures.3, c.view-view.ensures.4, c.view-view.ensures.5) at c.in_ok-components.ensures) a.system a.stored))
 
-pub returns-in_err-judge : goal.returns-in_err-judge
-returns-in_err-judge c = λ a.
-    let found = certificate_found _ _ ((rw (c.view-view.ensures.0, c.view-view.ensures.1, c.view-view.ensures.2, c.view-view.ensures.3, c.view-view.ensures.4, c.view-view.ensures.5) at c.in_ok-components.ensures) a.system a.stored) in
-    rw (handed_on c.from_residual-in_err-judge.result c.from_residual-in_err-judge.ensures.1)
-    (judge_stops a _ found _ _ (c.in_err-judge.ensures (judgeable a _ found)).numbered)
-
 pub returns : goal.returns
 returns c = λ a.
     let found = certificate_found _ _ ((rw (c.view-view.ensures.0, c.view-view.ensures.1, c.view-view.ensures.2, c.view-view.ensures.3, c.view-view.ensures.4, c.view-view.ensures.5) at c.in_ok-components.ensures) a.system a.stored) in
-    judge_passes a _ found _ (c.in_ok-judge.ensures (judgeable a _ found)).numbered
+    c.accepted.ensures ∙ judge_is a _ found _ _ (c.judge.ensures (judgeable a _ found)).numbered
