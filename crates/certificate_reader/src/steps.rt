@@ -94,7 +94,9 @@ fn pair(r: Record, s: State, pack: &PackView) -> Result<State, Refusal>
     if Some(k) <= s.pair_key {
         return Err(Refusal::StrayRecord);
     }
-    pair_finder::arcs::place_of(pack, usize::from(r.a), usize::from(r.b))?;
+    let Ok(_) = pair_finder::arcs::place_of(pack, usize::from(r.a), usize::from(r.b)) else {
+        return Err(Refusal::NoSuchPair);
+    };
     Ok(State {
         last: Before::Pair,
         due: s.due - 1,
