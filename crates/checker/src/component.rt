@@ -38,8 +38,11 @@ fn choose(rules: Verdict, pairs: Tally, last: bool, next: usize) -> Result<usize
     if rules == Verdict::Fails {
         return Err(Refusal::RuleRises);
     }
-    if pairs.rises || last && pairs.stays {
+    if pairs.rises {
         return Err(Refusal::PairStays);
+    }
+    if last && pairs.stays {
+        return Err(Refusal::PairStays); // one remains
     }
     if !pairs.falls {
         return Err(Refusal::NoneLeaves);
