@@ -44,6 +44,11 @@ used_up ends w₀ at end w l from to bytes past s =
 none_there : (ends : ℕ) (w₀ : List ℕ) (at end k : ℕ) → NoneBetween ends w₀ at end → EndsAt ends w₀ at end k → ⊥
 none_there ends w₀ at end k n e = n k e.from e.below e.here
 
+-- a window of which some is left stands as it does
+pub kept : (from to : ℕ) (w : List ℕ) → from ≤ to → to ≤ length w → Refilled from to w (record { from = from; to = to }) w
+kept from to w ordered within =
+    record { ordered = ordered; within = within; start_kept = λ h. refl; end_kept = λ h. refl; window_kept = λ h. refl }
+
 module _ (ends : ℕ) (w₀ : List ℕ) (at end : ℕ) (fits : end ≤ length w₀) (w l w' : List ℕ) (from to bytes : ℕ) (r : Window)
     (s : SoFar ends w₀ at end w l from to bytes) (f : Refilled from to w r w') where
   -- where some of the window was left, the next byte is that of the window at first

@@ -95,14 +95,17 @@ pub fn take_line<R: Read>(
     let mut from = at;
     let mut to = end;
     for bytes in 0..line.len() {
-        let w = refilled(list, window, from, to)?;
-        let next = w.from;
-        to = w.to;
-        if next == to {
-            return Ok(ended(bytes));
+        // Not at each byte: to hand on a refilled window costs as much as to take one.
+        if to <= from {
+            let w = refilled(list, window, from, to)?;
+            from = w.from;
+            to = w.to;
+            if from == to {
+                return Ok(ended(bytes));
+            }
         }
-        let c = window[next];
-        from = next + 1;
+        let c = window[from];
+        from += 1;
         if c == ends {
             return Ok(Next {
                 taken: Taken::Line,
